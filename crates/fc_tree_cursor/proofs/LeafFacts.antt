@@ -5,11 +5,10 @@ use Rattle.std.proofs.lemmas.List.{take_all, take_more_set, get_or-set_same}
 use Rattle.std.specs.Prelude.{slice_range, slice_set}
 use Rattle.fc_base.specs.Sizes.{capacity}
 use Rattle.fc_tree_node.specs.declared.node.Node.{Node}
-use Rattle.fc_tree_node.specs.Node.{own_pairs, child_at, pairs_of, IsLevelled}
+use Rattle.fc_tree_node.specs.Node.{own_pairs, child_at, IsLevelled}
 use Rattle.fc_tree_node.specs.LeafGap.{IsLeafGap}
 use Rattle.fc_tree_node.specs.Path.{IsPath, before_gap}
 use Rattle.fc_tree_node.specs.Place.{before_child, before_own, IsPlace, before_pair, node_at}
-use Rattle.fc_tree_node.proofs.Formed.{one_height}
 use Rattle.fc_tree_node.proofs.Gaps.{take_item, place_more, before_own_more}
 use Rattle.fc_tree_node.proofs.Lists.{length_set}
 use Rattle.fc_tree_node.proofs.Sizes.{level_size}

@@ -5,6 +5,7 @@ pub mod MeasureFacts
 pub mod Made
 pub mod Cuts
 pub mod Formed
+pub mod Heir
 pub mod Shared
 pub mod Siblings
 pub mod Places

@@ -16,11 +16,12 @@ use fc_tree_slots::children::Children;
 use fc_tree_slots::slots::Slots;
 use std::alloc::Global;
 
+mod balancing;
 mod bulk;
-mod mend;
 mod opening;
 mod split;
 
+pub use opening::into_only_child;
 pub use split::left_len;
 
 /// The most pairs that a node holds.

@@ -1,6 +1,6 @@
 -- A node from which a pair was removed, by what is left below it.
 use Rattle.std.proofs.Common.{length-append, ◌≡◌, ℕ, suc, zero, ◌+◌, ◌-◌, ◌<◌, ◌≤◌, List, [], ◌∷◌, ◌++◌, length, get_or, map, take, drop, refl, sym, ap, subst}
-use Rattle.std.proofs.Common.{◌∙◌, arith, append_assoc, add-one, append-nil, inl, inr, Some}
+use Rattle.std.proofs.Common.{◌∙◌, arith, append_assoc, add-one, append-nil, inl, inr, Option, Some, None, MatchOption}
 use Rattle.std.specs.Prelude.{slice_set, slice_range, slice_get, ◌⊎◌}
 use Rattle.std.specs.List.{AllByRecursion, remove}
 use Rattle.std.proofs.lemmas.Bool.{cases_lt}
@@ -8,15 +8,15 @@ use Rattle.std.proofs.lemmas.List.Edits.{length-remove}
 use Rattle.std.proofs.lemmas.List.{length-map, map-append, take-set, drop-set-lt, get_or-set_same, nil_from_length}
 use Rattle.fc_base.specs.Sizes.{capacity, min_len}
 use Rattle.fc_tree_node.specs.Weave.{weave}
-use Rattle.fc_tree_node.specs.declared.node.Node.{Node, out-Node}
+use Rattle.fc_tree_node.specs.declared.node.Node.{Node}
 use Rattle.fc_tree_node.specs.Node.{own_pairs, children_of, child_at, pairs_of, IsLeaf, IsInner, IsLevelled, IsSound, IsSoundRoot}
 use Rattle.fc_tree_node.specs.Place.{before_child, after_child, before_own, after_own, IsPlace, place_pair, before_pair, after_pair}
 use Rattle.fc_tree_removal.specs.Rebalancing.{IsShortAt}
+use Rattle.fc_tree_removal.specs.Removal.{IsTreeLeft}
 use Rattle.fc_tree_node.specs.Shrunk.{IsShrunk}
 use Rattle.fc_tree_node.proofs.Lists.{length_take, set_is, length_set, all_take, all_drop}
 use Rattle.fc_tree_node.proofs.Weaves.{weave_parts}
 use Rattle.fc_tree_node.proofs.Pairs.{pairs_is, leaf_children, leaf_pairs, child_below}
-use Rattle.fc_tree_node.proofs.Made.{children_in, inner_length}
 use Rattle.fc_tree_node.proofs.Lent.{IsAbove, above, above_child, IsLent, lent, lent_is, IsReplaced}
 use Rattle.fc_tree_node.proofs.Cuts.{last_out}
 use Rattle.fc_tree_node.proofs.Gaps.{drop_item, inner_gap, item_there, before_child_pair, after_none}
@@ -27,10 +27,7 @@ module _ {X : Type 0} where
   get_there xs i x h e = let t = item_there xs i h in t.2 ∙ ap Some (sym (t.1 x) ∙ sym e)
 
 module _ {K V Z : Type 0} where
-  -- a node with children lies above the leaves
-  pub some_above : (h : ℕ) (n : Node K V Z) (cs : List (Node K V Z)) → (out-Node K V Z n).children ≡ Some cs → IsLevelled h n → IsAbove IsLevelled h n
-  some_above h n cs e = above IsLevelled h n (λ l. let f = sym e ∙ l.1 in cc)
-
+  -- a level leaf has no level below it
   pub none_leaf : (h : ℕ) (n : Node K V Z) → IsLeaf n → IsLevelled h n → h ≡ 0
   none_leaf zero n e l = refl
   none_leaf (suc h) n e l =
@@ -194,26 +191,13 @@ module _ {K V Z : Type 0} where
   pub empty_leaf : (root : Node K V Z) → IsLeaf root → length (own_pairs root) ≡ 0 → pairs_of root ≡ []
   empty_leaf root l e = leaf_pairs root l ∙ nil_from_length (own_pairs root) e
 
-  -- the only child of a root without pairs
-  pub only_child : (root : Node K V Z) (cs : List (Node K V Z)) (c : Node K V Z) → (out-Node K V Z root).children ≡ Some cs → IsInner root
-      → length (own_pairs root) ≡ 0 → c ≡ get_or cs 0 c → children_of root ≡ c ∷ []
-  only_child root cs c e inner h f = children_in root cs e ∙ single cs c (inner_length root cs e inner ∙ ap (λ k. k + 1) h) f
-    where
-      single : (cs : List (Node K V Z)) (c : Node K V Z) → length cs ≡ 1 → c ≡ get_or cs 0 c → cs ≡ c ∷ []
-      single [] c e f = absurd (omega arith)
-      single (d ∷ []) c e f = ap (λ x. x ∷ []) (sym f)
-      single (d ∷ x ∷ cs) c e f = absurd (omega arith)
-
-  pub only_pairs : (root c : Node K V Z) → length (own_pairs root) ≡ 0 → children_of root ≡ c ∷ [] → pairs_of c ≡ pairs_of root
-  only_pairs root c h e =
-      sym (pairs_is root ∙ ap (λ ps. weave (map pairs_of (children_of root)) ps) (nil_from_length (own_pairs root) h) ∙ ap (λ cs. weave (map pairs_of cs) []) e
-      ∙ append-nil (pairs_of c))
-
-  pub one_lower : (h : ℕ) (root c : Node K V Z) (cs : List (Node K V Z)) → (out-Node K V Z root).children ≡ Some cs → children_of root ≡ c ∷ []
-      → IsLevelled h root → IsSoundRoot h c ⊎ ((0 < h) × IsSoundRoot (h - 1) c)
-  one_lower zero root c cs e f l = absurd (let q = sym e ∙ l.1 in cc)
-  one_lower (suc h) root c cs e f l =
-      let a = (subst (AllByRecursion (IsSound h)) f l.2).0 in
+  -- what takes the place of a root without pairs is a level lower, or nothing
+  pub heir_left : (heir : Option (Node K V Z)) (h : ℕ) (root : Node K V Z)
+      → MatchOption heir (IsLeaf root) (λ c. children_of root ≡ c ∷ []) → IsLevelled h root → IsTreeLeft h heir
+  heir_left None h root e l = none_leaf h root e l
+  heir_left (Some c) zero root e l = absurd (let q = sym (leaf_children root l.1) ∙ e in cc)
+  heir_left (Some c) (suc h) root e l =
+      let a = (subst (AllByRecursion (IsSound h)) e l.2).0 in
       let k : h ≡ suc h - 1 = omega arith in
       inr (omega arith, subst (λ m. IsSoundRoot m c) k (omega arith, a.1))
 

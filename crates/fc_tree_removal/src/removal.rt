@@ -13,7 +13,7 @@ ghost use Rattle.fc_tree_node.specs.Shrunk.{IsShrunk};
 
 use fc_base::{Count, Handle};
 use fc_tree_node::lend::child_in;
-use fc_tree_node::node::{CAPACITY, MIN_LEN, Node};
+use fc_tree_node::node::{CAPACITY, MIN_LEN, Node, into_only_child};
 
 /// Takes the pair at the place out of the tree, of which nothing is left where that was the only pair. It compares nothing and takes
 /// no memory.
@@ -66,11 +66,7 @@ fn without_empty_root<K: Drop, V: Drop, A: Handle>(root: Node<K, V, A>) -> Optio
     if root.len() > 0 {
         return Some(root);
     }
-    let Node { pairs: _, children } = root;
-    match children {
-        None => None,
-        Some(mut children) => Some(children.remove(0)),
-    }
+    into_only_child(root)
 }
 
 // Takes the pair at the place out, and rebalances the nodes below `node`.

@@ -1,8 +1,7 @@
 //! Rebalancing of a tree whose nodes may all hold too few pairs.
-ghost use Rattle.std.specs.Prelude.{◌≡◌, ℕ, suc, ◌+◌, ◌<◌, ◌≤◌, length, MatchOption, ◌∷◌, [], ◌⊎◌};
-ghost use Rattle.fc_base.specs.Sizes.{capacity, min_len};
-ghost use Rattle.fc_tree_node.specs.Node.{own_pairs, children_of, child_at, pairs_of, IsLeaf};
-ghost use Rattle.fc_tree_node.specs.Siblings.{IsFormed};
+ghost use Rattle.std.specs.Prelude.{◌≡◌, ℕ, suc, ◌+◌, ◌<◌, length, ◌⊎◌};
+ghost use Rattle.fc_base.specs.Sizes.{min_len};
+ghost use Rattle.fc_tree_node.specs.Node.{own_pairs, child_at, pairs_of};
 ghost use Rattle.fc_tree_node.specs.Tree.{entries, IsSoundWithin};
 ghost use Rattle.fc_tree_retain.specs.Loose.{IsLoose};
 ghost use Rattle.fc_tree_retain.specs.Rebalancing.{IsThin, IsSeam, IsSeamRebalanced, IsJoined};
@@ -10,7 +9,7 @@ ghost use Rattle.fc_tree_retain.specs.Stretch.{IsThinWithin};
 
 use fc_base::{Count, Handle};
 use fc_tree_node::lend::child_in;
-use fc_tree_node::node::{CAPACITY, MIN_LEN, Node};
+use fc_tree_node::node::{CAPACITY, MIN_LEN, Node, into_only_child};
 
 // Rebalances all below the node from the leaves up. The node itself may hold few pairs, none too.
 pub(crate) fn rebalance<K: Drop, V: Drop, A: Handle>(node: &mut Node<K, V, A>)
@@ -109,21 +108,8 @@ pub(crate) fn without_thin_roots<K: Drop, V: Drop, A: Handle>(
     if root.len() > 0 {
         return Some(root);
     }
-    match only_child(root) {
+    match into_only_child(root) {
         None => None,
         Some(child) => without_thin_roots(child),
-    }
-}
-
-// What takes the place of a root without pairs: its only child, or nothing where it is a leaf.
-fn only_child<K: Drop, V: Drop, A: Handle>(root: Node<K, V, A>) -> Option<Node<K, V, A>>
-    requires none { length (own_pairs root) ≡ 0 }
-    requires formed { IsFormed root }
-    ensures { MatchOption result (IsLeaf root) (λ c. children_of root ≡ c ∷ []) }
-{
-    let Node { pairs: _, children } = root;
-    match children {
-        None => None,
-        Some(mut children) => Some(children.remove(0)),
     }
 }

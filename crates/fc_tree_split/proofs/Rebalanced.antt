@@ -1,18 +1,15 @@
 -- A node whose child on the border was rebalanced, and a root that gives way to its only child.
-use Rattle.std.proofs.Common.{◌≡◌, ℕ, zero, suc, ◌+◌, ◌<◌, ◌≤◌, List, [], ◌∷◌, length, get_or, take, drop, map, refl, sym, ap, subst, ◌∙◌, arith}
-use Rattle.std.proofs.Common.{append-nil, Option, Some, None, MatchOption, inl, inr}
+use Rattle.std.proofs.Common.{◌≡◌, ℕ, zero, suc, ◌+◌, ◌<◌, ◌≤◌, [], ◌∷◌, length, get_or, take, drop, refl, sym, ap, subst, ◌∙◌, arith}
+use Rattle.std.proofs.Common.{Option, Some, None, MatchOption, inl, inr}
 use Rattle.std.specs.List.{AllByRecursion}
 use Rattle.fc_base.specs.Sizes.{min_len}
-use Rattle.fc_tree_node.specs.Weave.{weave}
-use Rattle.fc_tree_node.specs.declared.node.Node.{Node, out-Node}
-use Rattle.fc_tree_node.specs.Node.{own_pairs, children_of, child_at, pairs_of, IsLeaf, IsLevelled, IsSound}
+use Rattle.fc_tree_node.specs.declared.node.Node.{Node}
+use Rattle.fc_tree_node.specs.Node.{own_pairs, children_of, child_at, IsLeaf, IsLevelled, IsSound}
 use Rattle.fc_tree_node.specs.Bordered.{FirstThen, LastAfter, IsLeftBordered, IsRightBordered}
 use Rattle.fc_tree_node.specs.Siblings.{IsFormed}
-use Rattle.fc_tree_node.specs.Tree.{Map, entries, IsSoundWithin}
-use Rattle.fc_tree_node.proofs.Formed.{inner_opened}
+use Rattle.fc_tree_node.specs.Tree.{Map, IsSoundWithin}
 use Rattle.fc_tree_node.proofs.Lists.{set_is, all_both}
-use Rattle.fc_tree_node.proofs.Pairs.{pairs_is, leaf_pairs, leaf_children}
-use Rattle.fc_tree_node.proofs.Made.{children_in, inner_length}
+use Rattle.fc_tree_node.proofs.Pairs.{leaf_children}
 use Rattle.fc_tree_node.proofs.Lent.{IsAbove, above, IsLent, lent, lent_is, IsReplaced}
 use Rattle.fc_tree_split.specs.Border.{IsBordered, border_place, HasSparePair}
 use Rattle.fc_tree_node.specs.Shrunk.{IsShrunk}
@@ -65,36 +62,7 @@ module _ {K V : Type 0} where
     bordered_formed Left (suc h) n b = inr b.1
     bordered_formed Right (suc h) n b = inr b.1
 
-    pub levelled_formed : (h : ℕ) (n : Node K V Z) → IsLevelled h n → IsFormed n
-    levelled_formed zero n l = inl l.1
-    levelled_formed (suc h) n l = inr l.1
-
-    -- the only child of a root without pairs
-    pub only_one : (root : Node K V Z) (cs : List (Node K V Z)) (c : Node K V Z) → (out-Node K V Z root).children ≡ Some cs → IsFormed root
-        → length (own_pairs root) ≡ 0 → c ≡ get_or cs 0 c → children_of root ≡ c ∷ []
-    only_one root cs c e formed h f = children_in root cs e ∙ single cs c (inner_length root cs e (inner_opened root cs e formed) ∙ ap (λ k. k + 1) h) f
-      where
-        single : (cs : List (Node K V Z)) (c : Node K V Z) → length cs ≡ 1 → c ≡ get_or cs 0 c → cs ≡ c ∷ []
-        single [] c e f = absurd (omega arith)
-        single (x ∷ []) c e f = ap (λ y. y ∷ []) (sym f)
-        single (x ∷ y ∷ cs) c e f = absurd (omega arith)
-
-  no_pairs : (xs : List (K × V)) → length xs ≡ 0 → xs ≡ []
-  no_pairs [] e = refl
-  no_pairs (x ∷ xs) e = absurd (omega arith)
-
   module _ {Z : Type 0} where
-    pub only_pairs : (root c : Node K V Z) → length (own_pairs root) ≡ 0 → children_of root ≡ c ∷ [] → pairs_of c ≡ pairs_of root
-    only_pairs root c h e =
-        sym (pairs_is root ∙ ap (λ ps. weave (map pairs_of (children_of root)) ps) (no_pairs (own_pairs root) h) ∙ ap (λ cs. weave (map pairs_of cs) []) e
-        ∙ append-nil (pairs_of c))
-
-    -- what takes the place of a root without pairs holds the same
-    pub heir_pairs : (heir : Option (Node K V Z)) (root : Node K V Z) → length (own_pairs root) ≡ 0
-        → MatchOption heir (IsLeaf root) (λ c. children_of root ≡ c ∷ []) → entries heir ≡ pairs_of root
-    heir_pairs None root h l = sym (leaf_pairs root l ∙ no_pairs (own_pairs root) h)
-    heir_pairs (Some c) root h e = only_pairs root c h e
-
     pub heir_levels : (heir : Option (Node K V Z)) (h : ℕ) (root : Node K V Z)
         → MatchOption heir (IsLeaf root) (λ c. children_of root ≡ c ∷ []) → IsLevelled h root → IsSoundWithin h heir
     heir_levels None h root e l = tt

@@ -1,16 +1,15 @@
 //! Rebalancing of a tree whose nodes on the leftmost or on the rightmost path may hold too few pairs.
-ghost use Rattle.std.specs.Prelude.{◌≡◌, ℕ, suc, ◌+◌, ◌-◌, ◌<◌, ◌≤◌, [], ◌∷◌, length, MatchOption};
+ghost use Rattle.std.specs.Prelude.{◌≡◌, ℕ, suc, ◌+◌, ◌-◌, ◌<◌, ◌≤◌, length};
 ghost use Rattle.fc_base.specs.Sizes.{capacity};
-ghost use Rattle.fc_tree_node.specs.Node.{own_pairs, children_of, child_at, pairs_of, IsLeaf, IsInner, IsLevelled};
+ghost use Rattle.fc_tree_node.specs.Node.{own_pairs, pairs_of};
 ghost use Rattle.fc_tree_node.specs.Tree.{entries, IsSoundWithin};
 ghost use Rattle.fc_tree_node.specs.Bordered.{IsLeftBordered, IsRightBordered};
-ghost use Rattle.fc_tree_node.specs.Siblings.{IsFormed};
 ghost use Rattle.fc_tree_split.specs.Border.{IsBordered, border_place, HasSparePair};
 ghost use Rattle.fc_tree_node.specs.Shrunk.{IsShrunk};
 
 use fc_base::{Count, Handle};
 use fc_tree_node::lend::child_in;
-use fc_tree_node::node::{CAPACITY, MIN_LEN, Node};
+use fc_tree_node::node::{CAPACITY, MIN_LEN, Node, into_only_child};
 
 /// The border of a tree where nodes may hold too few pairs.
 #[derive(Clone, Copy)]
@@ -54,7 +53,7 @@ pub fn rebalance<K: Drop, V: Drop, A: Handle>(
 {
     // While the root has no pair, its only child takes its place.
     if root.len() == 0 {
-        return match only_child(root) {
+        return match into_only_child(root) {
             None => None,
             Some(child) => rebalance(child, side, count),
         };
@@ -64,20 +63,7 @@ pub fn rebalance<K: Drop, V: Drop, A: Handle>(
     if root.len() > 0 {
         return Some(root);
     }
-    only_child(root)
-}
-
-// What takes the place of a root without pairs: its only child, or nothing where it is a leaf.
-fn only_child<K: Drop, V: Drop, A: Handle>(root: Node<K, V, A>) -> Option<Node<K, V, A>>
-    requires none { length (own_pairs root) ≡ 0 }
-    requires formed { IsFormed root }
-    ensures { MatchOption result (IsLeaf root) (λ c. children_of root ≡ c ∷ []) }
-{
-    let Node { pairs: _, children } = root;
-    match children {
-        None => None,
-        Some(mut children) => Some(children.remove(0)),
-    }
+    into_only_child(root)
 }
 
 // Rebalances the border below a node that has a pair, from the node downwards.

@@ -1,6 +1,7 @@
 //! Pairs and children taken out of a node at its ends, with nothing rebalanced: for a walk that takes a tree apart.
-ghost use Rattle.std.specs.Prelude.{◌≡◌, ◌<◌, [], ◌∷◌, ◌++◌, length};
-ghost use Rattle.fc_tree_node.specs.Node.{own_pairs, children_of};
+ghost use Rattle.std.specs.Prelude.{◌≡◌, ◌<◌, [], ◌∷◌, ◌++◌, length, MatchOption};
+ghost use Rattle.fc_tree_node.specs.Node.{own_pairs, children_of, IsLeaf};
+ghost use Rattle.fc_tree_node.specs.Siblings.{IsFormed};
 
 use super::Node;
 use fc_base::{Count, Handle};
@@ -50,5 +51,18 @@ impl<K, V, A: Handle> Node<K, V, A> {
                 children.remove(last)
             }
         }
+    }
+}
+
+/// What takes the place of a root without pairs: its only child, or nothing where it is a leaf.
+pub fn into_only_child<K: Drop, V: Drop, A: Handle>(root: Node<K, V, A>) -> Option<Node<K, V, A>>
+    requires none { length (own_pairs root) ≡ 0 }
+    requires formed { IsFormed root }
+    ensures { MatchOption result (IsLeaf root) (λ c. children_of root ≡ c ∷ []) }
+{
+    let Node { pairs: _, children } = root;
+    match children {
+        None => None,
+        Some(mut children) => Some(children.remove(0)),
     }
 }

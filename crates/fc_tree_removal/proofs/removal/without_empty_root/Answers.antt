@@ -1,30 +1,13 @@
-use Rattle.std.proofs.Common.{◌≡◌, length, sym, arith}
-use Rattle.fc_tree_node.specs.Node.{own_pairs}
-use Rattle.fc_tree_node.proofs.Made.{inner_length}
-use Rattle.fc_tree_removal.proofs.Removed.{none_leaf, some_above, empty_leaf, only_child, only_pairs, one_lower}
+use Rattle.std.proofs.Common.{arith}
+use Rattle.fc_tree_node.proofs.Heir.{levelled_formed, heir_pairs}
+use Rattle.fc_tree_removal.proofs.Removed.{heir_left}
 use Rattle.fc_tree_removal.proofs.removal.without_empty_root.Goals as goal
 
-pub remove-requires : goal.remove-requires
-remove-requires g c =
-    let a = some_above _ c.args.root _ c.in-Some.is c.requires.1 in
-    let k = inner_length c.args.root _ c.in-Some.is a.levels.1 in
-    omega arith
-
-pub returns-in-None-clause-pairs : goal.returns-in-None-clause-pairs
-returns-in-None-clause-pairs g c =
-    sym (empty_leaf c.args.root c.in-None.is (omega arith))
-
-pub returns-in-None-clause-levels : goal.returns-in-None-clause-levels
-returns-in-None-clause-levels g c h l = none_leaf h c.args.root c.in-None.is l
+pub into_only_child-requires-clause-formed : goal.into_only_child-requires-clause-formed
+into_only_child-requires-clause-formed g c = levelled_formed c.requires.0 c.args.root c.requires.1
 
 pub returns-clause-pairs : goal.returns-clause-pairs
-returns-clause-pairs g c =
-    let a = some_above _ c.args.root _ c.in-Some.is c.requires.1 in
-    let e : length (own_pairs c.args.root) ≡ 0 = omega arith in
-    only_pairs c.args.root _ e (only_child c.args.root _ c.remove.result c.in-Some.is a.levels.1 e c.remove.ensures.value)
+returns-clause-pairs g c = heir_pairs c.into_only_child.result c.args.root (omega arith) c.into_only_child.ensures
 
 pub returns-clause-levels : goal.returns-clause-levels
-returns-clause-levels g c h l =
-    let a = some_above h c.args.root _ c.in-Some.is l in
-    let e : length (own_pairs c.args.root) ≡ 0 = omega arith in
-    one_lower h c.args.root _ _ c.in-Some.is (only_child c.args.root _ c.remove.result c.in-Some.is a.levels.1 e c.remove.ensures.value) l
+returns-clause-levels g c h l = heir_left c.into_only_child.result h c.args.root c.into_only_child.ensures l

@@ -1,6 +1,7 @@
 use Rattle.std.proofs.Common.{◌<◌, rules, arith, sym, ◌∙◌}
 use Rattle.fc_tree_node.specs.Measures.{height_of}
-use Rattle.fc_tree_split.proofs.Rebalanced.{within_more, only_pairs}
+use Rattle.fc_tree_node.proofs.Heir.{only_pairs}
+use Rattle.fc_tree_split.proofs.Rebalanced.{within_more}
 use Rattle.fc_tree_removal.proofs.Removed.{empty_leaf}
 use Rattle.fc_tree_retain.proofs.Levels.{thin_formed, thin_height, thin_levelled, thin_heir}
 use Rattle.fc_tree_retain.proofs.rebalancing.+without_thin_roots.Goals as goal
@@ -9,8 +10,8 @@ pub returns-then-len-gt0-clause-levels : goal.returns-then-len-gt0-clause-levels
 returns-then-len-gt0-clause-levels g t c h b =
     (h, omega arith, (omega arith, thin_levelled h c.args.root (omega arith) b))
 
-pub only_child-requires-clause-formed : goal.only_child-requires-clause-formed
-only_child-requires-clause-formed g t c = thin_formed _ c.args.root c.requires.1
+pub into_only_child-requires-clause-formed : goal.into_only_child-requires-clause-formed
+into_only_child-requires-clause-formed g t c = thin_formed _ c.args.root c.requires.1
 
 pub without_thin_roots-requires : goal.without_thin_roots-requires
 without_thin_roots-requires g t c κs within =

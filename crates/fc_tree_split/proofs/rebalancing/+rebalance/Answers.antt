@@ -1,11 +1,12 @@
 use Rattle.std.proofs.Common.{◌<◌, rules, arith, ◌∙◌}
 use Rattle.fc_tree_node.specs.Measures.{height_of}
 use Rattle.fc_tree_split.proofs.Heights.{bordered_height}
-use Rattle.fc_tree_split.proofs.Rebalanced.{bordered_formed, levelled_formed, only_pairs, heir_pairs, heir_levels, within_more, heir_bordered}
+use Rattle.fc_tree_node.proofs.Heir.{levelled_formed, only_pairs, heir_pairs}
+use Rattle.fc_tree_split.proofs.Rebalanced.{bordered_formed, heir_levels, within_more, heir_bordered}
 use Rattle.fc_tree_split.proofs.rebalancing.+rebalance.Goals as goal
 
-pub only_child-requires-clause-formed : goal.only_child-requires-clause-formed
-only_child-requires-clause-formed g t c = bordered_formed c.args.side _ _ c.requires.1
+pub into_only_child-requires-clause-formed : goal.into_only_child-requires-clause-formed
+into_only_child-requires-clause-formed g t c = bordered_formed c.args.side _ _ c.requires.1
 
 pub rebalance-requires : goal.rebalance-requires
 rebalance-requires g t c κs within =
@@ -24,14 +25,14 @@ returns-in-Some-clause-levels g t c h b =
     let r = heir_bordered c.args.side h c.args.root c.in-Some.child c.in-Some.ensures b in
     within_more r.below h _ (omega arith) (c.rebalance.ensures.levels r.below r.bordered)
 
-pub only_child-requires-2-clause-formed : goal.only_child-requires-2-clause-formed
-only_child-requires-2-clause-formed g t c =
+pub into_only_child-requires-2-clause-formed : goal.into_only_child-requires-2-clause-formed
+into_only_child-requires-2-clause-formed g t c =
     levelled_formed _ _ (c.rebalance_below.ensures.levels _ c.requires.1).0
 
 pub returns-clause-pairs : goal.returns-clause-pairs
 returns-clause-pairs g t c =
-    heir_pairs _ c.rebalance_below.new.node (omega arith) c.only_child-2.ensures ∙ c.rebalance_below.ensures.pairs
+    heir_pairs _ c.rebalance_below.new.node (omega arith) c.into_only_child-2.ensures ∙ c.rebalance_below.ensures.pairs
 
 pub returns-clause-levels : goal.returns-clause-levels
 returns-clause-levels g t c h b =
-    heir_levels _ h c.rebalance_below.new.node c.only_child-2.ensures (c.rebalance_below.ensures.levels h b).0
+    heir_levels _ h c.rebalance_below.new.node c.into_only_child-2.ensures (c.rebalance_below.ensures.levels h b).0

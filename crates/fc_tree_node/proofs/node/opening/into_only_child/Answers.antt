@@ -1,5 +1,5 @@
-use Rattle.fc_tree_split.proofs.Rebalanced.{only_one}
-use Rattle.fc_tree_split.proofs.rebalancing.only_child.Goals as goal
+use Rattle.fc_tree_node.proofs.Heir.{only_one}
+use Rattle.fc_tree_node.proofs.node.opening.into_only_child.Goals as goal
 
 pub returns : goal.returns
 returns g c =
