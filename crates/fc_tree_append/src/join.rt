@@ -2,6 +2,7 @@
 ghost use Rattle.std.specs.Prelude.{◌≡◌, ℕ, suc, ◌+◌, ◌<◌, ◌≤◌, ◌∷◌, ◌++◌, length, None, IfOk, IfErr};
 ghost use Rattle.fc_base.specs.Sizes.{most_levels, most_height};
 ghost use Rattle.fc_tree_node.specs.Node.{pairs_of, IsBlankInner, IsLevelled, IsSoundRoot, IsTree};
+ghost use Rattle.fc_tree_node.specs.Measures.{height_of};
 ghost use Rattle.fc_tree_node.specs.Tree.{entries, IsSoundMap, IsSoundWithin};
 
 use crate::grafting::graft;
@@ -36,22 +37,23 @@ pub(crate) fn try_join<K: Drop, V: Drop, A: Handle>(
     let Some(right) = &*theirs else {
         unreachable!()
     };
-    let levels = height(left).abs_diff(height(right));
-    let spares = try_spares(alloc, levels + 1)?;
+    let our_height = height(left);
+    let their_height = height(right);
+    let spares = try_spares(alloc, our_height.abs_diff(their_height) + 1)?;
     let Some(left) = ours.take() else {
         unreachable!()
     };
     let Some(right) = theirs.take() else {
         unreachable!()
     };
-    *ours = join(left, right, spares);
+    *ours = join(left, our_height, right, their_height, spares);
     Ok(())
 }
 
 // How many levels lie below the node.
 fn height<K, V, A: Handle>(node: &Node<K, V, A>) -> usize
     requires { IsTree node.now }
-    ensures { (h : ℕ) → IsLevelled h node.now → result ≡ h }
+    ensures { result ≡ height_of node.now }
 {
     if node.is_leaf() {
         return 0;
@@ -62,26 +64,28 @@ fn height<K, V, A: Handle>(node: &Node<K, V, A>) -> usize
 // One tree of the pairs of two. The pair between them comes from the shorter one.
 fn join<K: Drop, V: Drop, A: Handle>(
     left: Node<K, V, A>,
+    our_height: usize,
     right: Node<K, V, A>,
+    their_height: usize,
     spares: Spares<K, V, A>,
 ) -> Option<Node<K, V, A>>
-    requires left { (g : ℕ) × (g ≤ most_height) × IsSoundRoot g left }
-    requires right { (h : ℕ) × (h ≤ most_height) × IsSoundRoot h right }
-    requires spares { (g h : ℕ) → IsSoundRoot g left → IsSoundRoot h right → (g + 1 ≤ spares + h) × (h + 1 ≤ spares + g) }
+    requires left { (our_height ≤ most_height) × IsSoundRoot our_height left }
+    requires right { (their_height ≤ most_height) × IsSoundRoot their_height right }
+    requires spares { (our_height + 1 ≤ spares + their_height) × (their_height + 1 ≤ spares + our_height) }
     ensures pairs { entries result ≡ pairs_of left ++ pairs_of right }
     ensures levels { IsSoundWithin most_levels result }
 {
     let mut left = left;
     let mut right = right;
-    let ours = height(&left);
-    let theirs = height(&right);
-    if ours < theirs {
+    if our_height < their_height {
         let pair = remove_last(&mut left, &mut Count::new());
-        return graft(right, Border::Left, theirs - ours, pair, left, spares);
+        let levels = their_height - our_height;
+        return graft(right, Border::Left, levels, pair, left, spares);
     }
     let pair = remove_first(&mut right, &mut Count::new());
-    if ours > theirs {
-        return graft(left, Border::Right, ours - theirs, pair, right, spares);
+    if our_height > their_height {
+        let levels = our_height - their_height;
+        return graft(left, Border::Right, levels, pair, right, spares);
     }
     let mut spares = spares;
     join_under_root(left, pair, right, spares.take())

@@ -1,42 +1,39 @@
-use Rattle.std.proofs.Common.{◌≡◌, ◌++◌, length, sym, ap, subst, ◌∙◌, arith, length-append}
+use Rattle.std.proofs.Common.{◌≡◌, ◌++◌, length, sym, ap, ◌∙◌, arith, length-append}
 use Rattle.fc_base.specs.Sizes.{most_levels}
-use Rattle.fc_tree_node.specs.Node.{pairs_of, IsLevelled}
+use Rattle.fc_tree_node.specs.Measures.{height_of}
+use Rattle.fc_tree_node.specs.Node.{pairs_of}
 use Rattle.fc_tree_node.specs.Tree.{entries}
 use Rattle.fc_tree_split.proofs.Cuts.{root_sound}
+use Rattle.fc_tree_append.proofs.Levels.{own_height}
 use Rattle.fc_tree_append.proofs.UnderRoot.{within_few}
 use Rattle.fc_tree_append.proofs.join.try_join.Goals as goal
 
-pub height-requires : goal.height-requires
-height-requires g c =
+pub height-our_height-requires : goal.height-our_height-requires
+height-our_height-requires g c =
     let r = root_sound _ _ c.in-Some.is c.requires.sound.0 in
     (r.0, r.1, r.2.1)
 
-pub height-requires-2 : goal.height-requires-2
-height-requires-2 g c =
+pub height-their_height-requires : goal.height-their_height-requires
+height-their_height-requires g c =
     let r = root_sound _ _ c.in-Some-theirs.is c.requires.sound.1 in
     (r.0, r.1, r.2.1)
 
 pub try_spares-requires : goal.try_spares-requires
 try_spares-requires g c =
-    let l = root_sound _ _ c.in-Some.is c.requires.sound.0 in
-    let r = root_sound _ _ c.in-Some-theirs.is c.requires.sound.1 in
-    let x = c.height.ensures l.0 l.2.1 in
-    let y = c.height-2.ensures r.0 r.2.1 in
+    let l = own_height _ _ c.height-our_height.ensures (root_sound _ _ c.in-Some.is c.requires.sound.0) in
+    let r = own_height _ _ c.height-their_height.ensures (root_sound _ _ c.in-Some-theirs.is c.requires.sound.1) in
     omega arith
 
+-- what was taken out is what was measured
 pub join-requires-clause-left : goal.join-requires-clause-left
-join-requires-clause-left g c = root_sound _ _ (sym c.take.ensures.value ∙ c.in-Some-take.is) c.requires.sound.0
+join-requires-clause-left g c =
+    let same : c.in-Some.left ≡ c.in-Some-take.left = cc (c.in-Some.is, c.take.ensures.value, c.in-Some-take.is) in
+    own_height _ _ (c.height-our_height.ensures ∙ ap height_of same) (root_sound _ _ (sym c.take.ensures.value ∙ c.in-Some-take.is) c.requires.sound.0)
 
 pub join-requires-clause-right : goal.join-requires-clause-right
-join-requires-clause-right g c = root_sound _ _ (sym c.take-2.ensures.value ∙ c.in-Some-take-2.is) c.requires.sound.1
-
-pub join-requires-clause-spares : goal.join-requires-clause-spares
-join-requires-clause-spares g c a b l r =
-    let left : c.in-Some.left ≡ c.in-Some-take.left = cc (c.in-Some.is, c.take.ensures.value, c.in-Some-take.is) in
-    let right : c.in-Some-theirs.right ≡ c.in-Some-take-2.right = cc (c.in-Some-theirs.is, c.take-2.ensures.value, c.in-Some-take-2.is) in
-    let x = c.height.ensures a (subst (IsLevelled a) (sym left) l.1) in
-    let y = c.height-2.ensures b (subst (IsLevelled b) (sym right) r.1) in
-    (omega (arith, c.abs_diff-levels.ensures, c.in_ok-spares.ensures.len), omega (arith, c.abs_diff-levels.ensures, c.in_ok-spares.ensures.len))
+join-requires-clause-right g c =
+    let same : c.in-Some-theirs.right ≡ c.in-Some-take-2.right = cc (c.in-Some-theirs.is, c.take-2.ensures.value, c.in-Some-take-2.is) in
+    own_height _ _ (c.height-their_height.ensures ∙ ap height_of same) (root_sound _ _ (sym c.take-2.ensures.value ∙ c.in-Some-take-2.is) c.requires.sound.1)
 
 pub returns-clause-pairs : goal.returns-clause-pairs
 returns-clause-pairs g c =
