@@ -23,6 +23,9 @@ module _ {K V Z : Type 0} where
       let y = levelled_height h (child_at n 0) b in
       record { below = h; height = refl; levels = b; lower = omega arith }
 
+  pub first_lower : (h : ℕ) (n : Node K V Z) → (IsLeaf n → ⊥) → IsLevelled h n → height_of n ≡ suc (height_of (child_at n 0))
+  first_lower h n f l = (first_below h n f l).lower
+
   -- a sound tree is one of its own height
   pub own_height : (n : Node K V Z) (height : ℕ) → height ≡ height_of n → (h : ℕ) × (h ≤ most_height) × IsSoundRoot h n
       → (height ≤ most_height) × IsSoundRoot height n

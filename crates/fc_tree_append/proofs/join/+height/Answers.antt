@@ -4,7 +4,7 @@ use Rattle.fc_tree_node.specs.Node.{IsLevelled}
 use Rattle.fc_tree_node.specs.Measures.{height_of}
 use Rattle.fc_tree_node.proofs.MeasureFacts.{no_children, levelled_height}
 use Rattle.fc_tree_node.proofs.Pairs.{leaf_children}
-use Rattle.fc_tree_append.proofs.Levels.{first_below}
+use Rattle.fc_tree_append.proofs.Levels.{first_below, first_lower}
 use Rattle.fc_tree_append.proofs.join.+height.Goals as goal
 
 pub returns-then-is_leaf : goal.returns-then-is_leaf
@@ -19,13 +19,13 @@ height-requires g t c κs within =
 
 pub overflow_add-result : goal.overflow_add-result
 overflow_add-result g t c =
-    let r = first_below c.requires.0 c.args.node.now (λ l. false≢true (c.if-is_leaf.ensures.1 l)) c.requires.2 in
+    let r = first_lower c.requires.0 c.args.node.now (λ l. false≢true (c.if-is_leaf.ensures.1 l)) c.requires.2 in
     let q = ap height_of c.child.ensures in
     let h = levelled_height c.requires.0 c.args.node.now c.requires.2 in
     omega arith
 
 pub returns : goal.returns
 returns g t c =
-    let r = first_below c.requires.0 c.args.node.now (λ l. false≢true (c.if-is_leaf.ensures.1 l)) c.requires.2 in
+    let r = first_lower c.requires.0 c.args.node.now (λ l. false≢true (c.if-is_leaf.ensures.1 l)) c.requires.2 in
     let q = ap height_of c.child.ensures in
     omega arith

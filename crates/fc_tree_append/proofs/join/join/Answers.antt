@@ -39,7 +39,6 @@ pub returns-then-our_height-their_height-clause-levels : goal.returns-then-our_h
 returns-then-our_height-their_height-clause-levels g c =
     let levels = their_levels g (goal.at.returns-then-our_height-their_height-clause-levels g c).Start (omega arith) in
     let l = c.requires.left in
-    let r = c.requires.right in
     within_more _ most_levels _ (omega arith) (c.graft.ensures.levels c.args.our_height levels (c.remove_last-pair.ensures.levels c.args.our_height l.1).0)
 
 pub remove_first-pair-requires : goal.remove_first-pair-requires
@@ -64,7 +63,6 @@ returns-then-our_height-their_height-2-clause-pairs g c =
 pub returns-then-our_height-their_height-2-clause-levels : goal.returns-then-our_height-their_height-2-clause-levels
 returns-then-our_height-their_height-2-clause-levels g c =
     let levels = our_levels g (goal.at.returns-then-our_height-their_height-2-clause-levels g c).Start (omega arith) in
-    let l = c.requires.left in
     let r = c.requires.right in
     within_more _ most_levels _ (omega arith)
     (c.graft-then-our_height-their_height-2.ensures.levels c.args.their_height levels (c.remove_first-pair.ensures.levels c.args.their_height r.1).0)
