@@ -1,7 +1,7 @@
 -- A node from which a pair was removed, by what is left below it.
 use Rattle.std.proofs.Common.{length-append, ◌≡◌, ℕ, suc, zero, ◌+◌, ◌-◌, ◌<◌, ◌≤◌, List, [], ◌∷◌, ◌++◌, length, get_or, map, take, drop, refl, sym, ap, subst}
 use Rattle.std.proofs.Common.{◌∙◌, arith, append_assoc, add-one, append-nil, inl, inr, Option, Some, None, MatchOption}
-use Rattle.std.specs.Prelude.{slice_set, slice_range, slice_get, ◌⊎◌}
+use Rattle.std.specs.Prelude.{slice_set, slice_range, slice_get, ◌⊎◌, ◌↔◌}
 use Rattle.std.specs.List.{AllByRecursion, remove}
 use Rattle.std.proofs.lemmas.Bool.{cases_lt}
 use Rattle.std.proofs.lemmas.List.Edits.{length-remove}
@@ -12,7 +12,7 @@ use Rattle.fc_tree_node.specs.declared.node.Node.{Node}
 use Rattle.fc_tree_node.specs.Node.{own_pairs, children_of, child_at, pairs_of, IsLeaf, IsInner, IsLevelled, IsSound, IsSoundRoot}
 use Rattle.fc_tree_node.specs.Place.{before_child, after_child, before_own, after_own, IsPlace, place_pair, before_pair, after_pair}
 use Rattle.fc_tree_removal.specs.Rebalancing.{IsShortAt}
-use Rattle.fc_tree_removal.specs.Removal.{IsTreeLeft}
+use Rattle.fc_tree_removal.specs.Removal.{IsTreeLeft, IsSpared}
 use Rattle.fc_tree_node.specs.Shrunk.{IsShrunk}
 use Rattle.fc_tree_node.proofs.Lists.{length_take, set_is, length_set, all_take, all_drop}
 use Rattle.fc_tree_node.proofs.Weaves.{weave_parts}
@@ -221,6 +221,27 @@ place_step (i ∷ j ∷ p) n h w =
       before = ap (λ q. before_child n i ++ before_pair q (child_at n i)) e;
       after = ap (λ q. after_pair q (child_at n i) ++ after_child n i) e;
     }
+
+pub place_falls : {K V Z : Type 0} (p : List ℕ) (n : Node K V Z) → IsPlace p n → length (slice_range p 1 (length p)) < length p
+place_falls [] n w = absurd w
+place_falls (i ∷ p) n w =
+    let e : length (slice_range (i ∷ p) 1 (length (i ∷ p))) ≡ length p = ap length (take_all p (suc (length p) - 1) (omega arith)) in
+    omega (arith, e)
+
+-- the place is spared below the first step as it is from there on
+pub spared_step : {K V Z : Type 0} (p : List ℕ) (n : Node K V Z) → (length p ≡ 1 → ⊥) → IsPlace p n
+    → IsSpared (slice_range p 1 (length p)) (child_at n (get_or p 0 0)) ↔ IsSpared p n
+spared_step [] n h w = absurd w
+spared_step (i ∷ []) n h w = absurd (h refl)
+spared_step (i ∷ j ∷ p) n h w =
+    let e : slice_range (i ∷ j ∷ p) 1 (length (i ∷ j ∷ p)) ≡ j ∷ p = take_all (j ∷ p) (suc (suc (length p)) - 1) (omega arith) in
+    (subst (λ q. IsSpared q (child_at n i)) e, subst (λ q. IsSpared q (child_at n i)) (sym e))
+
+-- a place of one step
+pub spared_here : {K V Z : Type 0} (p : List ℕ) (n : Node K V Z) → length p ≡ 1 → IsLeaf n × (min_len < length (own_pairs n)) ↔ IsSpared p n
+spared_here [] n h = absurd (omega arith)
+spared_here (i ∷ []) n h = (λ w. w, λ w. w)
+spared_here (i ∷ j ∷ p) n h = absurd (omega arith)
 
 module _ {K V Z : Type 0} where
   -- the child on the way to a pair

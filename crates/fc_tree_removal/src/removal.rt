@@ -1,5 +1,5 @@
 //! Removal at a place, which rebalances the nodes above it on its way up.
-ghost use Rattle.std.specs.Prelude.{◌≡◌, ℕ, suc, ◌+◌, ◌-◌, ◌*◌, ◌<◌, ◌≤◌, [], ◌∷◌, ◌++◌, length, Some};
+ghost use Rattle.std.specs.Prelude.{◌≡◌, ℕ, suc, ◌+◌, ◌-◌, ◌*◌, ◌<◌, ◌≤◌, [], ◌∷◌, ◌++◌, length, Some, IsTrue};
 ghost use Rattle.fc_base.specs.Sizes.{capacity, min_len, level_moves};
 ghost use Rattle.fc_tree_node.specs.Node.{own_pairs, child_at, pairs_of, IsLevelled, IsSoundRoot};
 ghost use Rattle.fc_tree_node.specs.Place.{IsPlace, place_pair, before_pair, after_pair};
@@ -8,7 +8,7 @@ ghost use Rattle.fc_tree_node.specs.Tree.{entries};
 ghost use Rattle.fc_tree_node.specs.TreePlace.{IsPlaceIn, pair_in, before_pair_in, after_pair_in};
 ghost use Rattle.fc_tree_removal.specs.Fewest.{least_rebalancing, fewest_moves, HasFewestMoves};
 ghost use Rattle.fc_tree_removal.specs.Rebalancing.{together, IsShortAt};
-ghost use Rattle.fc_tree_removal.specs.Removal.{IsSoundTree, IsTreeLeft};
+ghost use Rattle.fc_tree_removal.specs.Removal.{IsSoundTree, IsTreeLeft, IsSpared};
 ghost use Rattle.fc_tree_node.specs.Shrunk.{IsShrunk};
 
 use fc_base::{Count, Handle};
@@ -36,12 +36,52 @@ pub fn remove<K: Drop, V: Drop, A: Handle>(
 {
     let Some(root) = tree else { unreachable!() };
     let node: &mut Node<K, V, A> = root;
+    if is_spared(node, path) {
+        return remove_spared(node, path, count);
+    }
     let pair = remove_at(node, path, count);
     if node.len() > 0 {
         return pair;
     }
     take_empty_root(tree);
     pair
+}
+
+// Whether the place is one of a leaf that keeps enough pairs without one.
+fn is_spared<K, V, A: Handle>(node: &Node<K, V, A>, path: &[u8]) -> bool
+    requires { IsPlace path.now node.now }
+    ensures { IsTrue result → IsSpared path.now node.now }
+{
+    if path.len() == 1 {
+        return node.is_leaf() && MIN_LEN < node.len();
+    }
+    is_spared(node.child(path[0] as usize), &path[1..])
+}
+
+// Takes the pair at the place out of a leaf that keeps enough without it. Nothing is left to do on the way back, so that a compiler
+// makes a loop of it.
+fn remove_spared<K: Drop, V: Drop, A: Handle>(
+    node: &mut Node<K, V, A>,
+    path: &[u8],
+    count: &mut Count,
+) -> (K, V)
+    requires sound { (h : ℕ) × IsSoundRoot h node.old }
+    requires place { IsPlace path.now node.old }
+    requires spared { IsSpared path.now node.old }
+    ensures pair { place_pair path.now node.old ≡ Some result }
+    ensures pairs { pairs_of node.new ≡ before_pair path.now node.old ++ after_pair path.now node.old }
+    ensures levels { (h : ℕ) → IsSoundRoot h node.old → IsShrunk h node.old node.new }
+    ensures kept { (least : ℕ) → least ≤ min_len → least ≤ length (own_pairs node.old) → least ≤ length (own_pairs node.new) }
+    ensures moves { count.new.moves ≤ count.old.moves + (capacity + 2) }
+    ensures moved { count.old.moves < count.new.moves }
+    ensures fewest { (h : ℕ) → IsSoundRoot h node.old → length (own_pairs node.new) < length (own_pairs node.old) → count.old.moves + fewest_moves h ≤ count.new.moves }
+    ensures comparisons { count.new.comparisons ≡ count.old.comparisons }
+{
+    let i = path[0] as usize;
+    if path.len() == 1 {
+        return remove_own(node, i, count);
+    }
+    remove_spared(child_in(&mut node.children, i), &path[1..], count)
 }
 
 // Takes a root without pairs out of the tree. It is not inlined, since few removals come to it.
