@@ -20,13 +20,14 @@ docs/GALLERY.md leads to each example, whose READMEs have the same headings. A f
 an excerpt leads to the page, or the source, that has the whole; tools/pasted.py proves what is whole as it stands. And it looks that what docs/PROMISES.md names behind each wrong body, and behind each call that takes
 memory, is there: an edit CRATE/edits/NAME or CRATE/must-fail/NAME, a test CRATE::NAME, a file lines/NAME or tools/NAME, or a text 'CRATE/FILE: TEXT'; and
 that it lists just those calls that take memory which are public: functions of the crates that `fallible_collections` hands on whose answer has an error of
-a refused request, under the name of their type or trait."""
+a refused request, under the name of their type or trait. At last it looks by tools/tested.py that each public call has a test."""
 import functools
 import pathlib
 import re
 import sys
 
 sys.dont_write_bytecode = True
+import tested
 from surface import NOT_CALLED, NUMBERS, STD, Call, Surface, call_at, clause, function, header, plain, whole_item
 
 top = pathlib.Path(__file__).resolve().parent.parent
@@ -603,6 +604,7 @@ wrong_bodies(top / "docs/PROMISES.md")
 gallery(top / "docs/GALLERY.md")
 quoted_files()
 memory(top / "docs/PROMISES.md")
+wrong += tested.missing(top)
 for file in sorted([*top.glob("*.md"), *top.glob("docs/*.md"), *top.glob("crates/*/*.md"), *top.glob("examples/*/*.md")]):
     page(file)
 if wrong and "--write" not in sys.argv:

@@ -108,7 +108,7 @@ class Surface:
             if header.match(line) and not lines[at].startswith(" "):
                 said = comment_above(lines, at)
                 owner, at = head_of(lines, at)
-                is_open = not owner.startswith("impl") or " for " in owner
+                is_open = (not owner.startswith("impl") or " for " in owner) and not lines[at].endswith("}")
             elif lines[at] == "}":
                 owner, is_open = "", False
             elif (it := function.match(line)) and (line.startswith("pub fn") or is_open and owner):

@@ -62,6 +62,10 @@ fn numbers_are_copied_at_once(rt: HostRuntime) -> Result<(), Fail> {
         come_behind(rt.alloc(), 5usize, &[6, 7])? && come_behind(rt.alloc(), 5isize, &[-6, 7])?
     );
     assert!(rt;
+        come_behind(rt.alloc(), 5u128, &[6, 7])? && come_behind(rt.alloc(), 5i128, &[-6, 7])?
+    );
+    assert!(rt; come_behind::<char>(rt.alloc(), 'a', &['ß', 'c'])?);
+    assert!(rt;
         come_behind(rt.alloc(), true, &[false, true])? && come_behind(rt.alloc(), (), &[(), ()])?
     );
     Ok(())

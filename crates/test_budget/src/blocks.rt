@@ -108,3 +108,16 @@ fn what_takes_no_bytes_is_never_refused(rt: HostRuntime) {
     assert_eq!(rt; seen, (true, true, (true, 0), (false, 0)));
     assert_eq!(rt; (budget.used(), budget.left(), budget.cap()), (0, 0, 0));
 }
+
+// An account is as the budget stood when it was asked for, and counts for itself from there on.
+#[test]
+fn an_account_tells_what_is_out(rt: HostRuntime) -> Result<(), Fail> {
+    let budget = Budget::new(rt.alloc(), 80);
+    let six = Vec::<u64, _>::with_capacity(&budget, 6)?;
+    let mut account = budget.account();
+    drop(six);
+    assert!(rt; account.used() == 48 && account.left() == 32 && account.cap() == 80);
+    assert!(rt; account.take(32).is_ok() && account.left() == 0);
+    assert!(rt; budget.used() == 0 && budget.account().used() == 0);
+    Ok(())
+}

@@ -277,3 +277,11 @@ fn a_world_of_three_levels_refuses_no_new_key(rt: HostRuntime) {
         assert!(rt; has_value(&mut world, Kind::Maps, Side::Second, key, key));
     }
 }
+
+#[test]
+fn a_list_is_made_of_a_vector_and_back(rt: HostRuntime) -> Result<(), Fail> {
+    let items = Items::from(vec![in rt.alloc(); 3u64, 1, 3]?);
+    assert!(rt; items.as_slice() == [3, 1, 3].as_slice());
+    assert!(rt; items.into_vec().as_slice() == [3, 1, 3].as_slice());
+    Ok(())
+}

@@ -1,8 +1,9 @@
 //! Hashed maps in a budget that refuses: a refused call leaves the map as it was, and all bytes come back.
 use fc_base::{TryClone, TryReserveError};
 use fc_budget::Budget;
-use fc_hash::TryHashMap;
+use fc_hash::{TryHashMap, TryHashSet};
 use std::alloc::Global;
+use std::test::Fail;
 
 type Map<'b> = TryHashMap<u64, u64, &'b Budget<Global>>;
 
@@ -96,4 +97,26 @@ fn a_map_is_made_where_it_fits(rt: HostRuntime) {
     let seen = (bytes_with_a_copy(&short), bytes_with_a_copy(&exact));
     assert_eq!(rt; seen, ((false, false, 0), (true, true, bytes)));
     assert_eq!(rt; (short.used(), exact.used()), (0, 0));
+}
+
+fn set_for_ten<'b>(
+    budget: &'b Budget<Global>,
+) -> Result<TryHashSet<u64, &'b Budget<Global>>, TryReserveError> {
+    TryHashSet::with_capacity(budget, 10)
+}
+
+// Ten items take no byte more than the room for them, and room that does not fit is refused, with none of it taken.
+#[test]
+fn room_for_a_set_is_taken_at_once(rt: HostRuntime) -> Result<(), Fail> {
+    let ample = Budget::new(rt.alloc(), usize::MAX);
+    let mut set = set_for_ten(&ample)?;
+    let bytes = ample.used();
+    for number in 0..10u64 {
+        assert!(rt; set.insert(number)?);
+    }
+    assert!(rt; bytes > 0 && ample.used() == bytes && set.len() == 10);
+    let short = Budget::new(rt.alloc(), bytes.saturating_sub(1));
+    assert!(rt; matches!(set_for_ten(&short), Err(TryReserveError::AllocError)));
+    assert!(rt; short.used() == 0);
+    Ok(())
 }

@@ -1,8 +1,9 @@
 //! Ranges of numbers written and taken out, beside a plain row that has the value of each point.
 use crate::row::{Numbers, Row, change, has_row, next};
-use fc_base::TryReserveError;
+use fc_base::{Count, TryReserveError};
 use fc_intervals::IntervalMap;
 use std::alloc::Global;
+use std::ops::Range;
 use std::test::Fail;
 
 // Whether no stretch is empty, none starts before the last one ends, and there are as many as the map tells.
@@ -59,6 +60,38 @@ fn follows(alloc: Global, seed: u64, changes: usize) -> Result<bool, TryReserveE
 fn follows_a_row_of_points(rt: HostRuntime) -> Result<(), Fail> {
     assert!(rt; follows(rt.alloc(), 1, 300)?);
     assert!(rt; follows(rt.alloc(), 2, 300)?);
+    Ok(())
+}
+
+// Whether a stretch was found, from a start up to an end, with this value.
+fn is_stretch(found: Option<(Range<u64>, &u64)>, start: u64, end: u64, value: u64) -> bool {
+    match found {
+        Some((range, held)) => range.start == start && range.end == end && *held == value,
+        None => false,
+    }
+}
+
+#[test]
+fn the_first_and_the_last_stretch(rt: HostRuntime) -> Result<(), Fail> {
+    let mut map: Numbers = IntervalMap::new(rt.alloc());
+    assert!(rt; map.first().is_none() && map.last().is_none());
+    map.put(10..20, 1)?;
+    assert!(rt; is_stretch(map.first(), 10, 20, 1) && is_stretch(map.last(), 10, 20, 1));
+    map.put(30..35, 2)?;
+    map.put(0..12, 3)?;
+    map.cut(33..40)?;
+    assert!(rt; is_stretch(map.first(), 0, 12, 3) && is_stretch(map.last(), 30, 33, 2));
+    Ok(())
+}
+
+// A look-up that takes a count does as the one without.
+#[test]
+fn a_counted_look_up(rt: HostRuntime) -> Result<(), Fail> {
+    let mut map: Numbers = IntervalMap::new(rt.alloc());
+    map.put(10..20, 1)?;
+    let count = &mut Count::new();
+    assert!(rt; map.get_counted(10, count) == Some(&1) && map.get_counted(19, count) == Some(&1));
+    assert!(rt; map.get_counted(9, count).is_none() && map.get_counted(20, count).is_none());
     Ok(())
 }
 

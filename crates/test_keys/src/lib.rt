@@ -9,6 +9,8 @@ mod clones;
 #[cfg(test)]
 mod collected;
 #[cfg(test)]
+mod counted;
+#[cfg(test)]
 mod first_uses;
 #[cfg(test)]
 mod kinds;

@@ -43,6 +43,16 @@ fn counted_calls_do_as_those_without_a_count(rt: HostRuntime) -> Result<(), Fail
 }
 
 #[test]
+fn counted_ends_come_out_in_order(rt: HostRuntime) -> Result<(), Fail> {
+    let mut map = multiples(rt.alloc(), 1, 3, 10)?;
+    assert!(rt; matches!(map.pop_last_counted(&mut Count::new()), Some((2, 20))));
+    assert!(rt; matches!(map.pop_first_counted(&mut Count::new()), Some((1, 10))));
+    assert!(rt; map.pop_first_counted(&mut Count::new()).is_none());
+    assert!(rt; map.pop_last_counted(&mut Count::new()).is_none());
+    Ok(())
+}
+
+#[test]
 fn a_counted_insertion_takes_a_place_of_the_reservation(rt: HostRuntime) -> Result<(), Fail> {
     let mut map = multiples(rt.alloc(), 0, 3, 1)?;
     let mut reservation = map.try_reserve_nodes(1)?;

@@ -1,5 +1,6 @@
 //! Walks in loops and through adapters.
 use crate::numbers::{Numbers, multiples};
+use fc_map::map::{Keys, Values};
 use std::alloc::{AllocError, Global};
 use std::test::Fail;
 
@@ -53,6 +54,18 @@ fn are_collected(alloc: Global, map: &Numbers) -> Result<bool, AllocError> {
     let keys: Vec<u64> = map.keys().copied().collect(alloc)?;
     let values: Vec<u64> = map.values().rev().copied().collect(alloc)?;
     Ok(are_keys_and_values(&keys, &values))
+}
+
+// Walks over keys and over values that are made of one over the pairs give what is left of it, and leave it as it is.
+#[test]
+fn keys_and_values_of_a_walk(rt: HostRuntime) -> Result<(), Fail> {
+    let map = multiples(rt.alloc(), 1, 4, 10)?;
+    let mut pairs = map.iter();
+    assert!(rt; pairs.next().is_some());
+    let keys: Vec<u64> = Keys::of(pairs.clone()?).copied().collect(rt.alloc())?;
+    let values: Vec<u64> = Values::of(pairs).copied().collect(rt.alloc())?;
+    assert!(rt; keys.as_slice() == [2, 3].as_slice() && values.as_slice() == [20, 30].as_slice());
+    Ok(())
 }
 
 #[test]

@@ -3,6 +3,7 @@
 use fc_base::TryReserveError;
 use fc_map::map::BTreeMap;
 use std::alloc::Global;
+use std::test::Fail;
 
 pub(crate) type Numbers = BTreeMap<u64, u64>;
 
@@ -60,4 +61,12 @@ pub(crate) fn is_number(item: Option<u64>, wanted: u64) -> bool {
         Some(number) => number == wanted,
         None => false,
     }
+}
+
+#[test]
+fn a_map_by_default_is_empty(rt: HostRuntime) -> Result<(), Fail> {
+    let mut map = Numbers::default(rt.alloc());
+    assert!(rt; map.is_empty() && map.get(&0).is_none());
+    assert!(rt; insert(&mut map, 1, 1)?.is_none() && has_up_to(&map, 1));
+    Ok(())
 }

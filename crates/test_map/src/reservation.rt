@@ -90,6 +90,18 @@ fn a_reservation_serves_another_map(rt: HostRuntime) -> Result<(), Fail> {
     Ok(())
 }
 
+// Nodes for so many pairs, with no map at hand.
+#[test]
+fn a_reservation_is_made_without_a_map(rt: HostRuntime) -> Result<(), Fail> {
+    let mut map = multiples(rt.alloc(), 1, 101, 1)?;
+    let mut reservation = NumberReservation::try_new(rt.alloc(), 100, 50)?;
+    assert!(rt; reservation.places() == 50 && reservation.pairs() == 150);
+    assert!(rt; put_numbers(&mut map, &mut reservation, 101, 160) == 50 && has_up_to(&map, 150));
+    let overflown = NumberReservation::try_new(rt.alloc(), usize::MAX, 1);
+    assert!(rt; matches!(overflown, Err(TryReserveError::CapacityOverflow)));
+    Ok(())
+}
+
 // No room is asked for, and none is refused.
 #[test]
 fn a_reservation_of_none_takes_no_memory(rt: HostRuntime) -> Result<(), Fail> {
