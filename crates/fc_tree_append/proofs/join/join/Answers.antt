@@ -1,4 +1,4 @@
-use Rattle.std.proofs.Common.{◌≡◌, ◌+◌, ◌-◌, ◌++◌, ◌∷◌, [], ap, sym, subst, ◌∙◌, arith, append_assoc}
+use Rattle.std.proofs.Common.{◌≡◌, ◌+◌, ◌-◌, ◌≤◌, ◌++◌, ◌∷◌, [], ap, sym, subst, ◌∙◌, arith, append_assoc}
 use Rattle.fc_base.specs.Sizes.{most_levels}
 use Rattle.fc_tree_node.specs.Node.{pairs_of, IsLevelled}
 use Rattle.fc_tree_split.proofs.Rebalanced.{within_more}

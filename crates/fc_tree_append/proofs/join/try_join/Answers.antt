@@ -1,12 +1,14 @@
-use Rattle.std.proofs.Common.{◌≡◌, ◌++◌, length, sym, ap, ◌∙◌, arith, length-append}
-use Rattle.fc_base.specs.Sizes.{most_levels}
+use Rattle.std.proofs.Common.{◌≡◌, ◌≤◌, ◌++◌, length, sym, ap, ◌∙◌, arith, length-append}
+use Rattle.fc_base.specs.Sizes.{most_levels, most_height}
 use Rattle.fc_tree_node.specs.Measures.{height_of}
 use Rattle.fc_tree_node.specs.Node.{pairs_of}
 use Rattle.fc_tree_node.specs.Tree.{entries}
 use Rattle.fc_tree_split.proofs.Cuts.{root_sound}
 use Rattle.fc_tree_append.proofs.Levels.{own_height}
 use Rattle.fc_tree_append.proofs.UnderRoot.{within_few}
+use Rattle.fc_tree_append.proofs.join.try_join.Given as given
 use Rattle.fc_tree_append.proofs.join.try_join.Goals as goal
+use Rattle.fc_tree_append.proofs.join.try_join.Goals.{After-height-their_height}
 
 pub height-our_height-requires : goal.height-our_height-requires
 height-our_height-requires g c =
@@ -18,11 +20,17 @@ height-their_height-requires g c =
     let r = root_sound _ _ c.in-Some-theirs.is c.requires.sound.1 in
     (r.0, r.1, r.2.1)
 
-pub try_spares-requires : goal.try_spares-requires
-try_spares-requires g c =
+low : (g : given.Over) (c : After-height-their_height g) → (c.height-our_height.result ≤ most_height) × (c.height-their_height.result ≤ most_height)
+low g c =
     let l = own_height _ _ c.height-our_height.ensures (root_sound _ _ c.in-Some.is c.requires.sound.0) in
     let r = own_height _ _ c.height-their_height.ensures (root_sound _ _ c.in-Some-theirs.is c.requires.sound.1) in
-    omega arith
+    (l.0, r.0)
+
+pub overflow_add-abs_diff : goal.overflow_add-abs_diff
+overflow_add-abs_diff g c = let l = low g (goal.at.overflow_add-abs_diff g c).After-height-their_height in omega arith
+
+pub try_spares-requires : goal.try_spares-requires
+try_spares-requires g c = let l = low g (goal.at.try_spares-requires g c).After-height-their_height in omega arith
 
 -- what was taken out is what was measured
 pub join-requires-clause-left : goal.join-requires-clause-left
