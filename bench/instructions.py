@@ -25,6 +25,7 @@ COUNTS = [
     ("walks over the map, a pair", "walks_driver", "bench_jobs"),
     ("walks over sets, an item given", "sets_driver", "bench_jobs"),
     ("whole maps, a pair", "whole_driver", "bench_jobs"),
+    ("the map of stretches, a call", "intervals_driver", "bench_intervals"),
     ("maps in a budget / the same jobs at Global, a call or a pair", "budget_driver", "bench_budget"),
 ]
 CACHE = ["--cache-sim=yes", "--LL=1048576,16,64"]

@@ -2,7 +2,7 @@
 """Makes the tables of docs/PERFORMANCE.md out of what the scripts printed, so that nobody copies a number.
 
   bench/instructions.py >bench/figures/instructions      (and so bench/own.py, and bench/run of walks, sets, map and whole: each into a file of its name)
-  bench/instructions.py --unproved budget_driver >bench/figures/instructions_budget
+  bench/instructions.py --unproved budget_driver >bench/figures/instructions_budget, and so of intervals_driver
   bench/table.py                 prints the tables
   bench/table.py --write         writes them into the page
 
@@ -46,12 +46,21 @@ def aims():
     return found
 
 
+# What was counted for itself, by how its title begins.
+APART = {"maps in a budget": "instructions_budget", "the map of stretches": "instructions_intervals"}
+
+
+def counts_of(title):
+    """The file of the instructions under a title."""
+    return FIGURES / next((file for begin, file in APART.items() if title.startswith(begin)), "instructions")
+
+
 def commit(path):
     return re.match(r"instructions at (\S+?(?:, unproved)?):", printed(path)[0])[1]
 
 
 def of_instructions(title):
-    before, now = FIGURES / "before", FIGURES / "instructions"
+    before, now = FIGURES / "before", counts_of(title)
     of = [path for path in (before, now) if path.is_file()]
     rows = [{row[0]: row for row in printed(path)[1].get(title, [])} for path in of]
     most = aims()
@@ -64,7 +73,7 @@ def of_instructions(title):
 
 
 def of_budget(title):
-    path = FIGURES / "instructions_budget"
+    path = counts_of(title)
     of_std = {name: stds for rows in reversed(printed(FIGURES / "instructions")[1].values()) for name, _, stds, _ in rows}
     lines = [f"| | in a budget, at {commit(path)} | the same jobs at `Global` | std |", "|---|---|---|---|"]
     return lines + [f"| {name} | {ours} | {at_global} | {of_std[name]} |" for name, ours, at_global, _ in printed(path)[1][title]]
@@ -89,7 +98,7 @@ def reasons():
 def multiples(name):
     """Of a table's rows the multiples of std's that are too many, each with where it was measured: (row, where, multiple)."""
     script, _, title = name.partition(" ")
-    rows = printed(FIGURES / script)[1]
+    rows = printed(counts_of(title) if script == "instructions" else FIGURES / script)[1]
     if script == "instructions":
         for row, ours, stds, _ in rows.get(title, []):
             if float(ours) > float(stds):
