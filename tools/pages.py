@@ -19,8 +19,8 @@ the README of each crate of the library says first, of 'promises' what it says i
 docs/GALLERY.md leads to each example, whose READMEs have the same headings. A file's path starts at the top of the repository. An indented line of crates.txt is as it stands there. Paths that pages name or lead to are there. Rust stands on a page as a quotation, and the paragraph above
 an excerpt leads to the page, or the source, that has the whole; tools/pasted.py proves what is whole as it stands. And it looks that what docs/PROMISES.md names behind each wrong body, and behind each call that takes
 memory, is there: an edit CRATE/edits/NAME or CRATE/must-fail/NAME, a test CRATE::NAME, a file lines/NAME or tools/NAME, or a text 'CRATE/FILE: TEXT'; and
-that it lists just those calls that take memory which are public: functions of the crates that `fallible_collections` hands on whose answer has an error of
-a refused request, under the name of their type or trait. At last it looks by tools/tested.py that each public call has a test."""
+that it lists just those calls that take memory which are public: functions of the crates that `fallible_collections` hands on, and of those beside it, whose
+answer has an error of a refused request, under the name of their type or trait. At last it looks by tools/tested.py that each public call has a test."""
 import functools
 import pathlib
 import re
@@ -31,7 +31,7 @@ import tested
 from surface import NOT_CALLED, NUMBERS, STD, Call, Surface, call_at, clause, function, header, plain, whole_item
 
 top = pathlib.Path(__file__).resolve().parent.parent
-here = Surface(top)
+here = Surface(top, tested.ROOTS)
 read, calls_in, is_inner, is_public = here.read, here.calls_in, here.is_inner, here.is_public
 wrong = []
 
@@ -561,7 +561,7 @@ EACH = {"TryClone", "TryFromIterator"}  # traits whose calls are named at each t
 def memory(page):
     """Compares the calls that take memory with those that the page lists."""
     crates, names = here.handed_on
-    there = {call for crate in crates for file in (top / f"crates/{crate}/src").rglob("*.rt") for call in calls_of(file, names)}
+    there = {call for file in here.files([*crates, *tested.ROOTS[1:]]) for call in calls_of(file, names)}
     rows = page.read_text().partition("<!-- calls that take memory -->\n")[2].partition("<!-- end of calls that take memory -->")[0].splitlines()[2:]
     listed = []
     for row in rows:
