@@ -15,9 +15,8 @@ use Rattle.fc_lines.specs.declared.command.Command.TheVariants.{IsSubset, IsSupe
 use Rattle.fc_lines.specs.declared.command.Reply.TheVariants.{Done, Flag, Value, Pair, Len, Pairs, BadRange, Refused, GivenBack, ItemGivenBack, Both}
 use Rattle.fc_lines.specs.declared.command.Reply.TheVariants.{BothGivenBack, Key, Keys, Order}
 use Rattle.fc_lines.specs.Lines.{lines_of}
-use Rattle.fc_lines.specs.Grammar.{command_of, on_maps_of, on_map_of, map_command_of, plain_of, keyed_of, valued_of, entry_of, both_of, steps_of, walk_of}
-use Rattle.fc_lines.specs.Grammar.{write_of, extend_of, map_at, number_at, bound_at, on_sets_of, on_set_of, set_command_of, plain_on_set_of, with_item_of}
-use Rattle.fc_lines.specs.Grammar.{walk_items_of, extend_items_of, keep_of, set_at}
+use Rattle.fc_lines.specs.Grammar.{command_of, command_of_words, on_one_of, on_map_of, plain_of, keyed_of, valued_of, entry_of, both_of, steps_of, walk_of, write_of}
+use Rattle.fc_lines.specs.Grammar.{extend_of, number_at, bound_at, on_set_of, plain_on_set_of, with_item_of, walk_items_of, extend_items_of, keep_of, set_at}
 use Rattle.fc_lines.specs.Texts.{text_of}
 use Rattle.std.specs.declared.cmp.Ordering.TheVariants.{Less, Equal, Greater}
 use Rattle.fc_lines.specs.declared.command.SetOp.TheVariants.{Difference, SymmetricDifference, Intersection, Union}
@@ -28,13 +27,13 @@ six = codes "insert a 37 1\ninsert a 037 2\nget a 37\nlen a\nremove a 37\nget b 
 six_commands : map command_of (lines_of six) ≡ Some (Insert First 37 1) ∷ Some (Insert First 37 2) ∷ Some (Get First 37)
     ∷ Some (CountPairs First)
     ∷ Some (Remove First 37) ∷ Some (Get Second 1) ∷ []
-unfolding command_of on_maps_of on_map_of map_command_of plain_of keyed_of valued_of entry_of map_at number_at
+unfolding command_of command_of_words on_one_of on_map_of plain_of keyed_of valued_of entry_of number_at
 six_commands = refl
 
 -- The longest number, and one with leading zeros.
 numbers_read : map command_of (codes "get a 18446744073709551615" ∷ codes "get a 00000000000000000001" ∷ []) ≡ Some (Get First 18446744073709551615)
     ∷ Some (Get First 1) ∷ []
-unfolding command_of on_maps_of on_map_of map_command_of plain_of keyed_of valued_of entry_of map_at number_at
+unfolding command_of command_of_words on_one_of on_map_of plain_of keyed_of valued_of entry_of number_at
 numbers_read = refl
 
 -- An empty line, spaces that are two or at an end, a carriage return, words that are not numbers, a word too few or too many,
@@ -43,8 +42,8 @@ bad_lines : map command_of (codes "" ∷ codes "get  a 1" ∷ codes " get a 1" �
     ∷ codes "get a 000000000000000000001" ∷ codes "get a 18446744073709551616" ∷ codes "insert a 1" ∷ codes "len a 1" ∷ codes "get s 1" ∷ codes "Insert a 1 1"
     ∷ codes "bogus" ∷ codes "pair a" ∷ codes "has a 1 2" ∷ codes "clear" ∷ codes "set a 1" ∷ codes "entry a 1 2" ∷ codes "evict a 1 2" ∷ [])
     ≡ None ∷ None ∷ None ∷ None ∷ None ∷ None ∷ None ∷ None ∷ None ∷ None ∷ None ∷ None ∷ None ∷ None ∷ None ∷ None ∷ None ∷ None ∷ None ∷ []
-unfolding command_of on_maps_of on_map_of map_command_of on_sets_of on_set_of set_command_of plain_on_set_of with_item_of walk_items_of steps_of
-    extend_items_of set_at plain_of keyed_of valued_of entry_of map_at number_at
+unfolding command_of command_of_words on_one_of on_map_of on_set_of plain_on_set_of with_item_of walk_items_of steps_of extend_items_of plain_of keyed_of valued_of
+    entry_of number_at
 bad_lines = refl
 
 -- The other commands on one key or one map.
@@ -52,7 +51,7 @@ more_commands : map command_of (codes "pair a 1" ∷ codes "has b 1" ∷ codes "
     ≡ Some (GetKeyValue First 1) ∷ Some (ContainsKey Second 1) ∷ Some (Clear Second) ∷ Some (Set First 1 2)
     ∷ Some (Entry Second 1 2 3)
     ∷ Some (RemoveEntry First 1) ∷ []
-unfolding command_of on_maps_of on_map_of map_command_of plain_of keyed_of valued_of entry_of map_at number_at
+unfolding command_of command_of_words on_one_of on_map_of plain_of keyed_of valued_of entry_of number_at
 more_commands = refl
 
 -- Walks: bounds, the letters of ends, and writes.
@@ -61,7 +60,7 @@ walk_commands : map command_of (codes "walk a =4 =8 bffb" ∷ codes "walk b !5 !
     ≡ Some (Walk First (Included 4) (Included 8) (Back ∷ Front ∷ Front ∷ Back ∷ [])) ∷ Some (Walk Second (Excluded 5) (Excluded 5) (Front ∷ []))
     ∷ Some (Walk First Unbounded (Included 7) (Back ∷ []))
     ∷ Some (Write First (Included 4) Unbounded ((Front, 9) ∷ [])) ∷ Some (Write Second Unbounded Unbounded ((Front, 10) ∷ (Back, 30) ∷ [])) ∷ []
-unfolding command_of on_maps_of on_map_of map_command_of walk_of steps_of write_of map_at bound_at
+unfolding command_of command_of_words on_one_of on_map_of walk_of steps_of write_of bound_at
 walk_commands = refl
 
 -- Another letter, a space in a write, no ends, a bare number as a bound, a bound without its number, no writes, a write without its
@@ -70,15 +69,15 @@ bad_walks : map command_of (codes "walk a * * fx" ∷ codes "write a * * f 1" �
     ∷ codes "walk a = * f" ∷ codes "walk a =  * f" ∷ codes "walk a ** * f" ∷ codes "write a * *" ∷ codes "write a * * f=" ∷ codes "write a * * g=1"
     ∷ codes "write a * * f=1 " ∷ codes "walk c * * f" ∷ codes "walk a =18446744073709551616 * f" ∷ codes "walk a * * f b" ∷ [])
     ≡ None ∷ None ∷ None ∷ None ∷ None ∷ None ∷ None ∷ None ∷ None ∷ None ∷ None ∷ None ∷ None ∷ None ∷ None ∷ []
-unfolding command_of on_maps_of on_map_of map_command_of on_sets_of on_set_of set_command_of plain_on_set_of with_item_of walk_items_of steps_of
-    extend_items_of set_at number_at walk_of write_of map_at bound_at
+unfolding command_of command_of_words on_one_of on_map_of on_set_of plain_on_set_of with_item_of walk_items_of steps_of extend_items_of number_at walk_of write_of
+    bound_at
 bad_walks = refl
 
 -- Commands on both maps, and of many pairs.
 map_commands : map command_of (codes "append a" ∷ codes "split b 5" ∷ codes "copy a" ∷ codes "extend b 3 1" ∷ codes "extend a 3 1 5 2 8 3" ∷ [])
     ≡ Some (Append First) ∷ Some (SplitOff Second 5) ∷ Some (TryClone First) ∷ Some (Extend Second ((3, 1) ∷ []))
     ∷ Some (Extend First ((3, 1) ∷ (5, 2) ∷ (8, 3) ∷ [])) ∷ []
-unfolding command_of on_maps_of on_map_of map_command_of plain_of keyed_of valued_of entry_of extend_of map_at number_at
+unfolding command_of command_of_words on_one_of on_map_of plain_of keyed_of valued_of entry_of extend_of number_at
 map_commands = refl
 
 -- A word too many or too few, no pairs, a key without its value, another map, two spaces, a space behind, and a number that is too great.
@@ -86,8 +85,8 @@ bad_map_commands : map command_of (codes "append a b" ∷ codes "append" ∷ cod
     ∷ codes "extend a" ∷ codes "extend a 3" ∷ codes "extend a 3 1 5" ∷ codes "extend c 3 1" ∷ codes "extend a  3 1" ∷ codes "extend a 3 1 "
     ∷ codes "extend a 3 18446744073709551616" ∷ [])
     ≡ None ∷ None ∷ None ∷ None ∷ None ∷ None ∷ None ∷ None ∷ None ∷ None ∷ None ∷ None ∷ None ∷ []
-unfolding command_of on_maps_of on_map_of map_command_of on_sets_of on_set_of set_command_of plain_on_set_of with_item_of walk_items_of steps_of
-    extend_items_of set_at plain_of keyed_of valued_of entry_of extend_of map_at number_at
+unfolding command_of command_of_words on_one_of on_map_of on_set_of plain_on_set_of with_item_of walk_items_of steps_of extend_items_of plain_of keyed_of valued_of
+    entry_of extend_of number_at
 bad_map_commands = refl
 
 -- A pair for each map. A word too few or too many, a map's name, a word that is no number, two spaces, a space behind, and a number that
@@ -96,8 +95,8 @@ both_commands : map command_of (codes "both 1 2 5 9" ∷ codes "both 0 00 184467
     ∷ codes "both a 1 2 5 9" ∷ codes "both 1 2 x 9" ∷ codes "both 1 2  5 9" ∷ codes "both 1 2 5 9 " ∷ codes "both 1 2 18446744073709551616 9" ∷ [])
     ≡ Some (InsertBoth 1 2 5 9) ∷ Some (InsertBoth 0 0 18446744073709551615 1) ∷ None ∷ None ∷ None ∷ None ∷ None ∷ None ∷ None
     ∷ None ∷ []
-unfolding command_of on_maps_of on_map_of map_command_of on_sets_of on_set_of set_command_of plain_on_set_of with_item_of walk_items_of steps_of
-    extend_items_of set_at plain_of both_of keyed_of valued_of entry_of map_at number_at
+unfolding command_of command_of_words on_one_of on_map_of on_set_of plain_on_set_of with_item_of walk_items_of steps_of extend_items_of plain_of both_of keyed_of
+    valued_of entry_of number_at
 both_commands = refl
 
 -- Lines of one set, of a set and an item, and of many items.
@@ -108,9 +107,8 @@ set_commands : map command_of (codes "add s 1" ∷ codes "replace t 02" ∷ code
     ∷ Some (GetItem First 6) ∷ Some (SetLen Second) ∷ Some (SetClear First) ∷ Some (SetAppend First)
     ∷ Some (SetSplitOff Second 7) ∷ Some (SetClone First) ∷ Some (SetExtend First (3 ∷ 1 ∷ 3 ∷ []))
     ∷ Some (SetWalk Second (Included 4) (Excluded 8) (Back ∷ Front ∷ [])) ∷ []
-unfolding command_of on_maps_of on_map_of map_command_of walk_of steps_of extend_of plain_of keyed_of valued_of entry_of map_at number_at bound_at on_sets_of
-    on_set_of
-    set_command_of plain_on_set_of with_item_of walk_items_of extend_items_of set_at
+unfolding command_of command_of_words on_one_of on_map_of walk_of steps_of extend_of plain_of keyed_of valued_of entry_of number_at bound_at on_set_of
+    plain_on_set_of with_item_of walk_items_of extend_items_of
 set_commands = refl
 
 -- Lines of two sets.
@@ -121,9 +119,7 @@ operations_read : map command_of (codes "diff s" ∷ codes "sym t" ∷ codes "in
     ∷ Some (Keep Difference First) ∷ Some (Keep SymmetricDifference Second) ∷ Some (Keep Intersection First)
     ∷ Some (Keep Union Second)
     ∷ Some (IsDisjoint First) ∷ Some (IsSubset Second) ∷ Some (IsSuperset First) ∷ Some (SetCmp Second) ∷ []
-unfolding command_of on_maps_of on_map_of map_command_of plain_of keyed_of valued_of entry_of map_at on_sets_of on_set_of set_command_of plain_on_set_of
-    with_item_of
-    keep_of set_at
+unfolding command_of command_of_words on_one_of on_map_of plain_of keyed_of valued_of entry_of on_set_of plain_on_set_of with_item_of keep_of set_at
 operations_read = refl
 
 -- A map or a word of maps, a word too many or too few, another operation, no items, a number that is too great, and two spaces.
@@ -133,9 +129,8 @@ bad_set_commands : map command_of (codes "add a 1" ∷ codes "insert s 1" ∷ co
     ∷ codes "in  s 1" ∷ codes "Add s 1" ∷ [])
     ≡ None ∷ None ∷ None ∷ None ∷ None ∷ None ∷ None ∷ None ∷ None ∷ None ∷ None ∷ None ∷ None ∷ None ∷ None ∷ None ∷ None ∷ None ∷ None ∷ None ∷ None ∷ None
     ∷ []
-unfolding command_of on_maps_of on_map_of map_command_of walk_of steps_of write_of extend_of plain_of keyed_of valued_of entry_of map_at number_at bound_at
-    on_sets_of
-    on_set_of set_command_of plain_on_set_of with_item_of keep_of walk_items_of extend_items_of set_at
+unfolding command_of command_of_words on_one_of on_map_of walk_of steps_of write_of extend_of plain_of keyed_of valued_of entry_of number_at bound_at on_set_of
+    plain_on_set_of with_item_of keep_of walk_items_of extend_items_of set_at
 bad_set_commands = refl
 
 -- The replies to the six lines, as text.

@@ -24,12 +24,6 @@ abbrev pub ◌>>=◌ : {A B : Type 0} → Option A → (A → Option B) → Opti
 None >>= f = None
 (Some x) >>= f = f x
 
--- The first that is there.
-infixl 5 ◌or_else◌
-abbrev pub ◌or_else◌ : {A : Type 0} → Option A → Option A → Option A
-None or_else o = o
-(Some x) or_else o = Some x
-
 -- Whether a word is this text.
 abbrev pub is_text : List ℕ → List ℕ → Bool
 is_text word text = pointwise nat_eq word text
@@ -41,10 +35,6 @@ is_number word = nat_lt 0 (length word) && nat_le (length word) 20 && list_all i
 -- The number that a word writes.
 abbrev pub number_of : List ℕ → Option ℕ
 number_of word = if is_number word then Some (digits_value 10 word) else None
-
--- The map that a word names.
-abbrev pub map_of : List ℕ → Option Side
-map_of word = if is_text word (codes "a") then Some First else if is_text word (codes "b") then Some Second else None
 
 -- The set that a word names.
 abbrev pub set_named : List ℕ → Option Side
@@ -90,13 +80,6 @@ abbrev pub word_at : List (List ℕ) → Option (List ℕ × List (List ℕ))
 word_at [] = None
 word_at (word ∷ words) = Some (word, words)
 
--- The map that the first word names, and the words after it.
-unfoldable pub map_at : List (List ℕ) → Option (Side × List (List ℕ))
-map_at words = do
-  first ← word_at words
-  side ← map_of first.0
-  Some (side, first.1)
-
 -- The set that the first word names, and the words after it.
 unfoldable pub set_at : List (List ℕ) → Option (Side × List (List ℕ))
 set_at words = do
@@ -138,6 +121,10 @@ all_pairs (k ∷ v ∷ words) = do
 abbrev pub some_pairs : List (List ℕ) → Option (List (ℕ × ℕ))
 some_pairs words = if nat_lt 0 (length words) then all_pairs words else None
 
+-- Whether no word is left.
+abbrev pub is_end : List (List ℕ) → Bool
+is_end words = nat_eq 0 (length words)
+
 -- What was read, if no word is left.
 abbrev pub whole_line : {A : Type 0} → A → List (List ℕ) → Option A
 whole_line x [] = Some x
@@ -167,33 +154,6 @@ on_pair word side k v = if is_text word (codes "insert") then Some (Insert side 
     else if is_text word (codes "set") then Some (Set side k v)
     else None
 
--- What was looked up, if it is there and the line ends, and else what is asked for otherwise.
-abbrev pub ended_or : {A : Type 0} → Option A → List (List ℕ) → Option A → Option A
-ended_or (Some x) words other = whole_line x words
-ended_or None words other = other
-
--- Behind a key and a value is the second value of `entry`.
-unfoldable pub entry_of : List ℕ → Side → ℕ → ℕ → List (List ℕ) → Option (Command ℕ ℕ)
-entry_of word side k v words = do
-  w ← number_at words
-  if is_text word (codes "entry") then whole_line (Entry side k v w.0) w.1 else None
-
--- Behind a key are a value, and another where the word wants one.
-unfoldable pub valued_of : List ℕ → Side → ℕ → List (List ℕ) → Option (Command ℕ ℕ)
-valued_of word side k words = do
-  v ← number_at words
-  ended_or (on_pair word side k v.0) v.1 (entry_of word side k v.0 v.1)
-
--- Behind a map are a key, and a value where the word wants one.
-unfoldable pub keyed_of : List ℕ → Side → List (List ℕ) → Option (Command ℕ ℕ)
-keyed_of word side words = do
-  k ← number_at words
-  ended_or (on_key word side k.0) k.1 (valued_of word side k.0 k.1)
-
--- Behind a map is a key where the word wants one.
-unfoldable pub plain_of : List ℕ → Side → List (List ℕ) → Option (Command ℕ ℕ)
-plain_of word side words = ended_or (on_whole_map word side) words (keyed_of word side words)
-
 -- The steps of a walk are two bounds and one word of letters.
 unfoldable pub steps_of : List (List ℕ) → Option (Bound ℕ × Bound ℕ × List End)
 steps_of words = do
@@ -219,18 +179,34 @@ write_of side words = do
 unfoldable pub extend_of : Side → List (List ℕ) → Option (Command ℕ ℕ)
 extend_of side words = option_map (Extend side) (some_pairs words)
 
+-- Behind a map, a key and a value is the second value of `entry`.
+unfoldable pub entry_of : List ℕ → Side → ℕ → ℕ → List (List ℕ) → Option (Command ℕ ℕ)
+entry_of word side k v words = do
+  w ← number_at words
+  if is_text word (codes "entry") then whole_line (Entry side k v w.0) w.1 else None
+
+-- Behind a map and a key is a value, and where that ends no line another.
+unfoldable pub valued_of : List ℕ → Side → ℕ → List (List ℕ) → Option (Command ℕ ℕ)
+valued_of word side k words = do
+  v ← number_at words
+  if is_end v.1 then on_pair word side k v.0 else entry_of word side k v.0 v.1
+
+-- Behind a map is a key, and where that ends no line a value.
+unfoldable pub keyed_of : List ℕ → Side → List (List ℕ) → Option (Command ℕ ℕ)
+keyed_of word side words = do
+  k ← number_at words
+  if is_end k.1 then on_key word side k.0 else valued_of word side k.0 k.1
+
+-- What a word that names no list asks of a map, by how many numbers are behind the map.
+unfoldable pub plain_of : List ℕ → Side → List (List ℕ) → Option (Command ℕ ℕ)
+plain_of word side words = if is_end words then on_whole_map word side else keyed_of word side words
+
 -- What a word and those behind the map ask of it.
-unfoldable pub map_command_of : List ℕ → Side → List (List ℕ) → Option (Command ℕ ℕ)
-map_command_of word side words = if is_text word (codes "walk") then walk_of side words
+unfoldable pub on_map_of : List ℕ → Side → List (List ℕ) → Option (Command ℕ ℕ)
+on_map_of word side words = if is_text word (codes "walk") then walk_of side words
     else if is_text word (codes "write") then write_of side words
     else if is_text word (codes "extend") then extend_of side words
     else plain_of word side words
-
--- The words after such a word are a map, and what the word wants behind it.
-unfoldable pub on_map_of : List ℕ → List (List ℕ) → Option (Command ℕ ℕ)
-on_map_of word words = do
-  m ← map_at words
-  map_command_of word m.0 m.1
 
 -- The words after `both` are a key and a value for the first map, and a key and a value for the second.
 unfoldable pub both_of : List (List ℕ) → Option (Command ℕ ℕ)
@@ -241,11 +217,13 @@ both_of words = do
   w ← number_at l.1
   whole_line (InsertBoth k.0 v.0 l.0 w.0) w.1
 
--- The command on maps that the words ask for, by the first of them.
-unfoldable pub on_maps_of : List (List ℕ) → Option (Command ℕ ℕ)
-on_maps_of words = do
-  first ← word_at words
-  if is_text first.0 (codes "both") then both_of first.1 else on_map_of first.0 first.1
+-- Behind the set of `walk` are steps.
+unfoldable pub walk_items_of : Side → List (List ℕ) → Option (Command ℕ ℕ)
+walk_items_of side words = option_map (λ steps. SetWalk side steps.0 steps.1 steps.2) (steps_of words)
+
+-- Behind the set of `extend` are one or more items.
+unfoldable pub extend_items_of : Side → List (List ℕ) → Option (Command ℕ ℕ)
+extend_items_of side words = option_map (SetExtend side) (some_read number_of words)
 
 -- The command that a word asks for on a set.
 abbrev pub on_whole_set : List ℕ → Side → Option (Command ℕ ℕ)
@@ -277,29 +255,15 @@ with_item_of word side words = do
   command ← on_item word side k.0
   whole_line command k.1
 
--- Behind a set is an item where the word wants one.
+-- What a word that names no list asks of a set, by whether an item is behind the set.
 unfoldable pub plain_on_set_of : List ℕ → Side → List (List ℕ) → Option (Command ℕ ℕ)
-plain_on_set_of word side words = ended_or (on_whole_set word side) words (with_item_of word side words)
-
--- Behind the set of `walk` are steps.
-unfoldable pub walk_items_of : Side → List (List ℕ) → Option (Command ℕ ℕ)
-walk_items_of side words = option_map (λ steps. SetWalk side steps.0 steps.1 steps.2) (steps_of words)
-
--- Behind the set of `extend` are one or more items.
-unfoldable pub extend_items_of : Side → List (List ℕ) → Option (Command ℕ ℕ)
-extend_items_of side words = option_map (SetExtend side) (some_read number_of words)
+plain_on_set_of word side words = if is_end words then on_whole_set word side else with_item_of word side words
 
 -- What a word and those behind the set ask of it.
-unfoldable pub set_command_of : List ℕ → Side → List (List ℕ) → Option (Command ℕ ℕ)
-set_command_of word side words = if is_text word (codes "walk") then walk_items_of side words
+unfoldable pub on_set_of : List ℕ → Side → List (List ℕ) → Option (Command ℕ ℕ)
+on_set_of word side words = if is_text word (codes "walk") then walk_items_of side words
     else if is_text word (codes "extend") then extend_items_of side words
     else plain_on_set_of word side words
-
--- The words after such a word are a set, and what the word wants behind it.
-unfoldable pub on_set_of : List ℕ → List (List ℕ) → Option (Command ℕ ℕ)
-on_set_of word words = do
-  c ← set_at words
-  set_command_of word c.0 c.1
 
 -- The words after `keep` are an operation and a set.
 unfoldable pub keep_of : List (List ℕ) → Option (Command ℕ ℕ)
@@ -309,12 +273,24 @@ keep_of words = do
   c ← set_at first.1
   whole_line (Keep op c.0) c.1
 
--- The command on sets that the words ask for, by the first of them.
-unfoldable pub on_sets_of : List (List ℕ) → Option (Command ℕ ℕ)
-on_sets_of words = do
-  first ← word_at words
-  if is_text first.0 (codes "keep") then keep_of first.1 else on_set_of first.0 first.1
+-- The words after such a word are a map or a set, and what the word wants behind it.
+unfoldable pub on_one_of : List ℕ → List (List ℕ) → Option (Command ℕ ℕ)
+on_one_of word words = do
+  name ← word_at words
+  if is_text name.0 (codes "a") then on_map_of word First name.1
+      else if is_text name.0 (codes "b") then on_map_of word Second name.1
+      else if is_text name.0 (codes "s") then on_set_of word First name.1
+      else if is_text name.0 (codes "t") then on_set_of word Second name.1
+      else None
 
--- The command that a line of at most 4096 bytes asks for, if it is one: on maps or on sets.
+-- The command that the words ask for, by the first of them.
+unfoldable pub command_of_words : List (List ℕ) → Option (Command ℕ ℕ)
+command_of_words words = do
+  first ← word_at words
+  if is_text first.0 (codes "both") then both_of first.1
+      else if is_text first.0 (codes "keep") then keep_of first.1
+      else on_one_of first.0 first.1
+
+-- The command that a line of at most 4096 bytes asks for, if it is one.
 unfoldable pub command_of : List ℕ → Option (Command ℕ ℕ)
-command_of line = if nat_le (length line) 4096 then (on_maps_of (words_of line) or_else on_sets_of (words_of line)) else None
+command_of line = if nat_le (length line) 4096 then command_of_words (words_of line) else None

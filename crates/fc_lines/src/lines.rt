@@ -9,39 +9,35 @@ ghost use Rattle.fc_lines.specs.Room.{NamesList};
 ghost use Rattle.fc_lines.specs.Grammar.{
   command_of,
   number_of,
-  map_of,
-  is_text,
   bound_of,
   end_of,
   one_write_of,
   some_read,
   word_at,
-  map_at,
   number_at,
   bound_at,
   pair_at,
   some_pairs,
+  is_text,
+  is_end,
   whole_line,
+  on_whole_map,
+  on_key,
+  on_pair,
   entry_of,
-  both_of,
+  plain_of,
   steps_of,
   walk_of,
   write_of,
   extend_of,
-  on_whole_map,
-  on_key,
-  on_pair,
-  keyed_of,
-  valued_of,
-  plain_of,
-  map_command_of,
   on_map_of,
-  on_maps_of,
+  both_of,
+  on_one_of,
 };
 
 use crate::command::{Command, End, Side};
 use crate::items::Items;
-use crate::set_lines::on_sets_in;
+use crate::set_lines::{keep_in, on_set_in};
 use std::alloc::{AllocError, Global};
 use std::ops::Bound;
 
@@ -52,7 +48,7 @@ pub const MAX_LINE: usize = 4096;
 ///
 /// # Errors
 /// `AllocError` where room for a list that the line names was refused, so that its first word is `walk`, `write` or `extend`.
-#[tactic(auto, unfolding(crate::specs::Grammar::command_of))]
+#[tactic(auto, unfolding(crate::specs::Grammar::command_of, crate::specs::Grammar::command_of_words))]
 pub fn command_in(alloc: Global, line: &[u8]) -> Result<Option<Command<u64, u64>>, AllocError>
     ensures command { IfOk result (λ command. command ≡ command_of line.now) }
     ensures list { OnErr result (NamesList (words_of line.now)) }
@@ -60,24 +56,11 @@ pub fn command_in(alloc: Global, line: &[u8]) -> Result<Option<Command<u64, u64>
     if line.len() > MAX_LINE {
         return Ok(None);
     }
-    match on_maps_in(alloc, Some(line))? {
-        Some(command) => Ok(Some(command)),
-        None => on_sets_in(alloc, Some(line)),
-    }
-}
-
-// The command on maps that the words ask for.
-#[tactic(auto, unfolding(crate::specs::Grammar::on_maps_of))]
-fn on_maps_in(alloc: Global, words: Option<&[u8]>) -> Result<Option<Command<u64, u64>>, AllocError>
-    ensures command { IfOk result (λ command. command ≡ on_maps_of (words_left words.entry)) }
-    ensures list { OnErr result (NamesList (words_left words.entry)) }
-{
-    let Some((word, words)) = next_word(words) else {
-        return Ok(None)
-    };
+    let (word, words) = first_word(line);
     match word {
         b"both" => Ok(both_in(words)),
-        _ => on_map_in(alloc, word, words),
+        b"keep" => Ok(keep_in(words)),
+        _ => on_one_in(alloc, word, words),
     }
 }
 
@@ -96,77 +79,64 @@ fn both_in(words: Option<&[u8]>) -> Option<Command<u64, u64>>
     )
 }
 
-// The words after such a word are a map, and what the word wants behind it.
-#[tactic(auto, unfolding(crate::specs::Grammar::on_map_of))]
-fn on_map_in(
+// The words after such a word are a map or a set, and what the word wants behind it.
+#[tactic(auto, unfolding(crate::specs::Grammar::on_one_of))]
+fn on_one_in(
     alloc: Global,
     word: &[u8],
     words: Option<&[u8]>,
 ) -> Result<Option<Command<u64, u64>>, AllocError>
-    ensures command { IfOk result (λ command. command ≡ on_map_of word.entry.now (words_left words.entry)) }
+    ensures command { IfOk result (λ command. command ≡ on_one_of word.entry.now (words_left words.entry)) }
     ensures list { OnErr result (NamesList (word.entry.now ∷ [])) }
 {
-    let Some((side, words)) = next_map(words) else {
+    let Some((name, words)) = next_word(words) else {
         return Ok(None)
     };
-    map_command_in(alloc, word, side, words)
+    match name {
+        b"a" => on_map_in(alloc, word, Side::First, words),
+        b"b" => on_map_in(alloc, word, Side::Second, words),
+        b"s" => on_set_in(alloc, word, Side::First, words),
+        b"t" => on_set_in(alloc, word, Side::Second, words),
+        _ => Ok(None),
+    }
 }
 
 // What a word and those behind the map ask of it.
-#[tactic(auto, unfolding(crate::specs::Grammar::map_command_of))]
-fn map_command_in(
+#[tactic(auto, unfolding(crate::specs::Grammar::on_map_of))]
+fn on_map_in(
     alloc: Global,
     word: &[u8],
     side: Side,
     words: Option<&[u8]>,
 ) -> Result<Option<Command<u64, u64>>, AllocError>
-    ensures command { IfOk result (λ command. command ≡ map_command_of word.entry.now side (words_left words.entry)) }
+    ensures command { IfOk result (λ command. command ≡ on_map_of word.entry.now side (words_left words.entry)) }
     ensures list { OnErr result (NamesList (word.entry.now ∷ [])) }
 {
-    if is_word(word, b"walk") {
-        walk_in(alloc, side, words)
-    } else if is_word(word, b"write") {
-        write_in(alloc, side, words)
-    } else if is_word(word, b"extend") {
-        extend_in(alloc, side, words)
-    } else {
-        Ok(plain_in(word, side, words))
+    match word {
+        _ if is_word(word, b"walk") => walk_in(alloc, side, words),
+        _ if is_word(word, b"write") => write_in(alloc, side, words),
+        _ if is_word(word, b"extend") => extend_in(alloc, side, words),
+        _ => Ok(plain_in(word, side, words)),
     }
 }
 
-// Behind the map is a key where the word wants one.
-#[tactic(auto, unfolding(crate::specs::Grammar::plain_of))]
+// How many numbers are behind the map tells in which table the word stands.
+#[tactic(auto, unfolding(crate::specs::Grammar::plain_of, crate::specs::Grammar::keyed_of, crate::specs::Grammar::valued_of))]
 fn plain_in(word: &[u8], side: Side, words: Option<&[u8]>) -> Option<Command<u64, u64>>
     ensures { result ≡ plain_of word.entry.now side (words_left words.entry) }
 {
-    match whole_in(word, side) {
-        Some(command) => at_line_end(command, words),
-        None => keyed_in(word, side, words),
+    if is_line_end(words) {
+        return whole_in(word, side);
     }
-}
-
-// Behind the map are a key, and a value where the word wants one.
-#[tactic(auto, unfolding(crate::specs::Grammar::keyed_of))]
-fn keyed_in(word: &[u8], side: Side, words: Option<&[u8]>) -> Option<Command<u64, u64>>
-    ensures { result ≡ keyed_of word.entry.now side (words_left words.entry) }
-{
     let (key, words) = next_number(words)?;
-    match on_key_in(word, side, key) {
-        Some(command) => at_line_end(command, words),
-        None => valued_in(word, side, key, words),
+    if is_line_end(words) {
+        return on_key_in(word, side, key);
     }
-}
-
-// Behind the key are a value, and another where the word wants one.
-#[tactic(auto, unfolding(crate::specs::Grammar::valued_of))]
-fn valued_in(word: &[u8], side: Side, key: u64, words: Option<&[u8]>) -> Option<Command<u64, u64>>
-    ensures { result ≡ valued_of word.entry.now side key (words_left words.entry) }
-{
     let (value, words) = next_number(words)?;
-    match on_pair_in(word, side, key, value) {
-        Some(command) => at_line_end(command, words),
-        None => entry_in(word, side, key, value, words),
+    if is_line_end(words) {
+        return on_pair_in(word, side, key, value);
     }
+    entry_in(word, side, key, value, words)
 }
 
 // Behind the first value is the second one of an entry.
@@ -181,10 +151,9 @@ fn entry_in(
     ensures { result ≡ entry_of word.entry.now side key there (words_left words.entry) }
 {
     let (new, words) = next_number(words)?;
-    if is_word(word, b"entry") {
-        at_line_end(Command::Entry(side, key, there, new), words)
-    } else {
-        None
+    match word {
+        b"entry" => at_line_end(Command::Entry(side, key, there, new), words),
+        _ => None,
     }
 }
 
@@ -192,16 +161,12 @@ fn entry_in(
 fn whole_in(word: &[u8], side: Side) -> Option<Command<u64, u64>>
     ensures { result ≡ on_whole_map word.entry.now side }
 {
-    if is_word(word, b"len") {
-        Some(Command::Len(side))
-    } else if is_word(word, b"clear") {
-        Some(Command::Clear(side))
-    } else if is_word(word, b"append") {
-        Some(Command::Append(side))
-    } else if is_word(word, b"copy") {
-        Some(Command::TryClone(side))
-    } else {
-        None
+    match word {
+        _ if is_word(word, b"len") => Some(Command::Len(side)),
+        _ if is_word(word, b"clear") => Some(Command::Clear(side)),
+        _ if is_word(word, b"append") => Some(Command::Append(side)),
+        _ if is_word(word, b"copy") => Some(Command::TryClone(side)),
+        _ => None,
     }
 }
 
@@ -209,20 +174,14 @@ fn whole_in(word: &[u8], side: Side) -> Option<Command<u64, u64>>
 fn on_key_in(word: &[u8], side: Side, key: u64) -> Option<Command<u64, u64>>
     ensures { result ≡ on_key word.entry.now side key }
 {
-    if is_word(word, b"get") {
-        Some(Command::Get(side, key))
-    } else if is_word(word, b"pair") {
-        Some(Command::GetKeyValue(side, key))
-    } else if is_word(word, b"has") {
-        Some(Command::ContainsKey(side, key))
-    } else if is_word(word, b"remove") {
-        Some(Command::Remove(side, key))
-    } else if is_word(word, b"evict") {
-        Some(Command::RemoveEntry(side, key))
-    } else if is_word(word, b"split") {
-        Some(Command::SplitOff(side, key))
-    } else {
-        None
+    match word {
+        _ if is_word(word, b"get") => Some(Command::Get(side, key)),
+        _ if is_word(word, b"pair") => Some(Command::GetKeyValue(side, key)),
+        _ if is_word(word, b"has") => Some(Command::ContainsKey(side, key)),
+        _ if is_word(word, b"remove") => Some(Command::Remove(side, key)),
+        _ if is_word(word, b"evict") => Some(Command::RemoveEntry(side, key)),
+        _ if is_word(word, b"split") => Some(Command::SplitOff(side, key)),
+        _ => None,
     }
 }
 
@@ -230,12 +189,10 @@ fn on_key_in(word: &[u8], side: Side, key: u64) -> Option<Command<u64, u64>>
 fn on_pair_in(word: &[u8], side: Side, key: u64, value: u64) -> Option<Command<u64, u64>>
     ensures { result ≡ on_pair word.entry.now side key value }
 {
-    if is_word(word, b"insert") {
-        Some(Command::Insert(side, key, value))
-    } else if is_word(word, b"set") {
-        Some(Command::Set(side, key, value))
-    } else {
-        None
+    match word {
+        _ if is_word(word, b"insert") => Some(Command::Insert(side, key, value)),
+        _ if is_word(word, b"set") => Some(Command::Set(side, key, value)),
+        _ => None,
     }
 }
 
@@ -367,6 +324,12 @@ fn pairs_in(alloc: Global, words: Option<&[u8]>) -> Result<Option<Vec<(u64, u64)
     Ok(Some(list))
 }
 
+pub(crate) fn is_line_end(words: Option<&[u8]>) -> bool
+    ensures { result ≡ is_end (words_left words.entry) }
+{
+    words.is_none()
+}
+
 // What was read, if no word is left.
 pub(crate) fn at_line_end<T: Drop>(read: T, words: Option<&[u8]>) -> Option<T>
     ensures { result ≡ whole_line read (words_left words.entry) }
@@ -375,15 +338,6 @@ pub(crate) fn at_line_end<T: Drop>(read: T, words: Option<&[u8]>) -> Option<T>
         None => Some(read),
         Some(_) => None,
     }
-}
-
-#[tactic(auto, unfolding(crate::specs::Grammar::map_at))]
-fn next_map(words: Option<&[u8]>) -> Option<(Side, Option<&[u8]>)>
-    ensures { option_map (λ x. (x.0, words_left x.1)) result ≡ map_at (words_left words.entry) }
-{
-    let (word, words) = next_word(words)?;
-    let side = map_in(word)?;
-    Some((side, words))
 }
 
 #[tactic(auto, unfolding(crate::specs::Grammar::number_at))]
@@ -449,16 +403,6 @@ pub(crate) fn is_word(word: &[u8], text: &[u8]) -> bool
     ensures { result ≡ is_text word.now text.now }
 {
     word.len() == text.len() && word == text
-}
-
-fn map_in(word: &[u8]) -> Option<Side>
-    ensures { result ≡ map_of word.now }
-{
-    match word {
-        b"a" => Some(Side::First),
-        b"b" => Some(Side::Second),
-        _ => None,
-    }
 }
 
 pub(crate) fn number_in(word: &[u8]) -> Option<u64>

@@ -11,42 +11,24 @@ ghost use Rattle.fc_lines.specs.Grammar.{
   set_at,
   on_whole_set,
   on_item,
-  plain_on_set_of,
   with_item_of,
+  plain_on_set_of,
   keep_of,
   walk_items_of,
   extend_items_of,
-  set_command_of,
   on_set_of,
-  on_sets_of,
 };
 
 use crate::command::{Command, SetOp, Side};
 use crate::items::Items;
-use crate::lines::{at_line_end, first_word, is_word, next_number, next_word, number_in, steps_in};
+use crate::lines::{
+    at_line_end, first_word, is_line_end, is_word, next_number, next_word, number_in, steps_in,
+};
 use std::alloc::{AllocError, Global};
-
-/// The command on sets that the words ask for.
-#[tactic(auto, unfolding(crate::specs::Grammar::on_sets_of))]
-pub fn on_sets_in(
-    alloc: Global,
-    words: Option<&[u8]>,
-) -> Result<Option<Command<u64, u64>>, AllocError>
-    ensures command { IfOk result (λ command. command ≡ on_sets_of (words_left words.entry)) }
-    ensures list { OnErr result (NamesList (words_left words.entry)) }
-{
-    let Some((word, words)) = next_word(words) else {
-        return Ok(None)
-    };
-    match word {
-        b"keep" => Ok(keep_in(words)),
-        _ => on_set_in(alloc, word, words),
-    }
-}
 
 // The words after `keep` are an operation and a set.
 #[tactic(auto, unfolding(crate::specs::Grammar::keep_of))]
-fn keep_in(words: Option<&[u8]>) -> Option<Command<u64, u64>>
+pub(crate) fn keep_in(words: Option<&[u8]>) -> Option<Command<u64, u64>>
     ensures { result ≡ keep_of (words_left words.entry) }
 {
     let (word, words) = next_word(words)?;
@@ -55,50 +37,33 @@ fn keep_in(words: Option<&[u8]>) -> Option<Command<u64, u64>>
     at_line_end(Command::Keep(op, side), words)
 }
 
-// The words after such a word are a set, and what the word wants behind it.
-#[tactic(auto, unfolding(crate::specs::Grammar::on_set_of))]
-fn on_set_in(
-    alloc: Global,
-    word: &[u8],
-    words: Option<&[u8]>,
-) -> Result<Option<Command<u64, u64>>, AllocError>
-    ensures command { IfOk result (λ command. command ≡ on_set_of word.entry.now (words_left words.entry)) }
-    ensures list { OnErr result (NamesList (word.entry.now ∷ [])) }
-{
-    let Some((side, words)) = next_set(words) else {
-        return Ok(None)
-    };
-    set_command_in(alloc, word, side, words)
-}
-
 // What a word and those behind the set ask of it.
-#[tactic(auto, unfolding(crate::specs::Grammar::set_command_of))]
-fn set_command_in(
+#[tactic(auto, unfolding(crate::specs::Grammar::on_set_of))]
+pub(crate) fn on_set_in(
     alloc: Global,
     word: &[u8],
     side: Side,
     words: Option<&[u8]>,
 ) -> Result<Option<Command<u64, u64>>, AllocError>
-    ensures command { IfOk result (λ command. command ≡ set_command_of word.entry.now side (words_left words.entry)) }
+    ensures command { IfOk result (λ command. command ≡ on_set_of word.entry.now side (words_left words.entry)) }
     ensures list { OnErr result (NamesList (word.entry.now ∷ [])) }
 {
-    if is_word(word, b"walk") {
-        walk_in(alloc, side, words)
-    } else if is_word(word, b"extend") {
-        extend_in(alloc, side, words)
-    } else {
-        Ok(plain_in(word, side, words))
+    match word {
+        _ if is_word(word, b"walk") => walk_in(alloc, side, words),
+        _ if is_word(word, b"extend") => extend_in(alloc, side, words),
+        _ => Ok(plain_in(word, side, words)),
     }
 }
 
-// Behind the set is an item where the word wants one.
+// Behind the set is an item where the line goes on.
 #[tactic(auto, unfolding(crate::specs::Grammar::plain_on_set_of))]
 fn plain_in(word: &[u8], side: Side, words: Option<&[u8]>) -> Option<Command<u64, u64>>
     ensures { result ≡ plain_on_set_of word.entry.now side (words_left words.entry) }
 {
-    match whole_in(word, side) {
-        Some(command) => at_line_end(command, words),
-        None => item_in(word, side, words),
+    if is_line_end(words) {
+        whole_in(word, side)
+    } else {
+        item_in(word, side, words)
     }
 }
 
@@ -115,24 +80,16 @@ fn item_in(word: &[u8], side: Side, words: Option<&[u8]>) -> Option<Command<u64,
 fn whole_in(word: &[u8], side: Side) -> Option<Command<u64, u64>>
     ensures { result ≡ on_whole_set word.entry.now side }
 {
-    if is_word(word, b"len") {
-        Some(Command::SetLen(side))
-    } else if is_word(word, b"clear") {
-        Some(Command::SetClear(side))
-    } else if is_word(word, b"append") {
-        Some(Command::SetAppend(side))
-    } else if is_word(word, b"copy") {
-        Some(Command::SetClone(side))
-    } else if is_word(word, b"disjoint") {
-        Some(Command::IsDisjoint(side))
-    } else if is_word(word, b"subset") {
-        Some(Command::IsSubset(side))
-    } else if is_word(word, b"superset") {
-        Some(Command::IsSuperset(side))
-    } else if is_word(word, b"cmp") {
-        Some(Command::SetCmp(side))
-    } else {
-        Some(Command::List(op_in(word)?, side))
+    match word {
+        _ if is_word(word, b"len") => Some(Command::SetLen(side)),
+        _ if is_word(word, b"clear") => Some(Command::SetClear(side)),
+        _ if is_word(word, b"append") => Some(Command::SetAppend(side)),
+        _ if is_word(word, b"copy") => Some(Command::SetClone(side)),
+        _ if is_word(word, b"disjoint") => Some(Command::IsDisjoint(side)),
+        _ if is_word(word, b"subset") => Some(Command::IsSubset(side)),
+        _ if is_word(word, b"superset") => Some(Command::IsSuperset(side)),
+        _ if is_word(word, b"cmp") => Some(Command::SetCmp(side)),
+        _ => Some(Command::List(op_in(word)?, side)),
     }
 }
 
@@ -140,22 +97,15 @@ fn whole_in(word: &[u8], side: Side) -> Option<Command<u64, u64>>
 fn on_item_in(word: &[u8], side: Side, item: u64) -> Option<Command<u64, u64>>
     ensures { result ≡ on_item word.entry.now side item }
 {
-    if is_word(word, b"add") {
-        Some(Command::AddItem(side, item))
-    } else if is_word(word, b"replace") {
-        Some(Command::ReplaceItem(side, item))
-    } else if is_word(word, b"take") {
-        Some(Command::TakeItem(side, item))
-    } else if is_word(word, b"drop") {
-        Some(Command::RemoveItem(side, item))
-    } else if is_word(word, b"in") {
-        Some(Command::ContainsItem(side, item))
-    } else if is_word(word, b"find") {
-        Some(Command::GetItem(side, item))
-    } else if is_word(word, b"split") {
-        Some(Command::SetSplitOff(side, item))
-    } else {
-        None
+    match word {
+        _ if is_word(word, b"add") => Some(Command::AddItem(side, item)),
+        _ if is_word(word, b"replace") => Some(Command::ReplaceItem(side, item)),
+        _ if is_word(word, b"take") => Some(Command::TakeItem(side, item)),
+        _ if is_word(word, b"drop") => Some(Command::RemoveItem(side, item)),
+        _ if is_word(word, b"in") => Some(Command::ContainsItem(side, item)),
+        _ if is_word(word, b"find") => Some(Command::GetItem(side, item)),
+        _ if is_word(word, b"split") => Some(Command::SetSplitOff(side, item)),
+        _ => None,
     }
 }
 
