@@ -15,8 +15,9 @@ use Rattle.fc_lines.specs.declared.command.Command.TheVariants.{IsSubset, IsSupe
 use Rattle.fc_lines.specs.declared.command.Reply.TheVariants.{Done, Flag, Value, Pair, Len, Pairs, BadRange, Refused, GivenBack, ItemGivenBack, Both}
 use Rattle.fc_lines.specs.declared.command.Reply.TheVariants.{BothGivenBack, Key, Keys, Order}
 use Rattle.fc_lines.specs.Lines.{lines_of}
-use Rattle.fc_lines.specs.Grammar.{command_of, command_of_words, on_one_of, on_map_of, plain_of, keyed_of, valued_of, entry_of, both_of, steps_of, walk_of, write_of}
-use Rattle.fc_lines.specs.Grammar.{extend_of, number_at, bound_at, on_set_of, plain_on_set_of, with_item_of, walk_items_of, extend_items_of, keep_of, set_at}
+use Rattle.fc_lines.specs.Grammar.{command_of, command_of_words, on_one_of, on_map_of, plain_of, keyed_of, valued_of, entry_of, both_of, steps_of, walk_of}
+use Rattle.fc_lines.specs.Grammar.{write_of, extend_of, number_at, bound_at, on_set_of, plain_on_set_of, with_item_of, walk_items_of, extend_items_of}
+use Rattle.fc_lines.specs.Grammar.{keep_of, set_at}
 use Rattle.fc_lines.specs.Texts.{text_of}
 use Rattle.std.specs.declared.cmp.Ordering.TheVariants.{Less, Equal, Greater}
 use Rattle.fc_lines.specs.declared.command.SetOp.TheVariants.{Difference, SymmetricDifference, Intersection, Union}
@@ -42,8 +43,8 @@ bad_lines : map command_of (codes "" ∷ codes "get  a 1" ∷ codes " get a 1" �
     ∷ codes "get a 000000000000000000001" ∷ codes "get a 18446744073709551616" ∷ codes "insert a 1" ∷ codes "len a 1" ∷ codes "get s 1" ∷ codes "Insert a 1 1"
     ∷ codes "bogus" ∷ codes "pair a" ∷ codes "has a 1 2" ∷ codes "clear" ∷ codes "set a 1" ∷ codes "entry a 1 2" ∷ codes "evict a 1 2" ∷ [])
     ≡ None ∷ None ∷ None ∷ None ∷ None ∷ None ∷ None ∷ None ∷ None ∷ None ∷ None ∷ None ∷ None ∷ None ∷ None ∷ None ∷ None ∷ None ∷ None ∷ []
-unfolding command_of command_of_words on_one_of on_map_of on_set_of plain_on_set_of with_item_of walk_items_of steps_of extend_items_of plain_of keyed_of valued_of
-    entry_of number_at
+unfolding command_of command_of_words on_one_of on_map_of on_set_of plain_on_set_of with_item_of walk_items_of steps_of extend_items_of plain_of
+    keyed_of valued_of entry_of number_at
 bad_lines = refl
 
 -- The other commands on one key or one map.
@@ -69,8 +70,8 @@ bad_walks : map command_of (codes "walk a * * fx" ∷ codes "write a * * f 1" �
     ∷ codes "walk a = * f" ∷ codes "walk a =  * f" ∷ codes "walk a ** * f" ∷ codes "write a * *" ∷ codes "write a * * f=" ∷ codes "write a * * g=1"
     ∷ codes "write a * * f=1 " ∷ codes "walk c * * f" ∷ codes "walk a =18446744073709551616 * f" ∷ codes "walk a * * f b" ∷ [])
     ≡ None ∷ None ∷ None ∷ None ∷ None ∷ None ∷ None ∷ None ∷ None ∷ None ∷ None ∷ None ∷ None ∷ None ∷ None ∷ []
-unfolding command_of command_of_words on_one_of on_map_of on_set_of plain_on_set_of with_item_of walk_items_of steps_of extend_items_of number_at walk_of write_of
-    bound_at
+unfolding command_of command_of_words on_one_of on_map_of on_set_of plain_on_set_of with_item_of walk_items_of steps_of extend_items_of number_at
+    walk_of write_of bound_at
 bad_walks = refl
 
 -- Commands on both maps, and of many pairs.
@@ -85,8 +86,8 @@ bad_map_commands : map command_of (codes "append a b" ∷ codes "append" ∷ cod
     ∷ codes "extend a" ∷ codes "extend a 3" ∷ codes "extend a 3 1 5" ∷ codes "extend c 3 1" ∷ codes "extend a  3 1" ∷ codes "extend a 3 1 "
     ∷ codes "extend a 3 18446744073709551616" ∷ [])
     ≡ None ∷ None ∷ None ∷ None ∷ None ∷ None ∷ None ∷ None ∷ None ∷ None ∷ None ∷ None ∷ None ∷ []
-unfolding command_of command_of_words on_one_of on_map_of on_set_of plain_on_set_of with_item_of walk_items_of steps_of extend_items_of plain_of keyed_of valued_of
-    entry_of extend_of number_at
+unfolding command_of command_of_words on_one_of on_map_of on_set_of plain_on_set_of with_item_of walk_items_of steps_of extend_items_of plain_of
+    keyed_of valued_of entry_of extend_of number_at
 bad_map_commands = refl
 
 -- A pair for each map. A word too few or too many, a map's name, a word that is no number, two spaces, a space behind, and a number that
@@ -95,8 +96,8 @@ both_commands : map command_of (codes "both 1 2 5 9" ∷ codes "both 0 00 184467
     ∷ codes "both a 1 2 5 9" ∷ codes "both 1 2 x 9" ∷ codes "both 1 2  5 9" ∷ codes "both 1 2 5 9 " ∷ codes "both 1 2 18446744073709551616 9" ∷ [])
     ≡ Some (InsertBoth 1 2 5 9) ∷ Some (InsertBoth 0 0 18446744073709551615 1) ∷ None ∷ None ∷ None ∷ None ∷ None ∷ None ∷ None
     ∷ None ∷ []
-unfolding command_of command_of_words on_one_of on_map_of on_set_of plain_on_set_of with_item_of walk_items_of steps_of extend_items_of plain_of both_of keyed_of
-    valued_of entry_of number_at
+unfolding command_of command_of_words on_one_of on_map_of on_set_of plain_on_set_of with_item_of walk_items_of steps_of extend_items_of plain_of
+    both_of keyed_of valued_of entry_of number_at
 both_commands = refl
 
 -- Lines of one set, of a set and an item, and of many items.
@@ -129,8 +130,8 @@ bad_set_commands : map command_of (codes "add a 1" ∷ codes "insert s 1" ∷ co
     ∷ codes "in  s 1" ∷ codes "Add s 1" ∷ [])
     ≡ None ∷ None ∷ None ∷ None ∷ None ∷ None ∷ None ∷ None ∷ None ∷ None ∷ None ∷ None ∷ None ∷ None ∷ None ∷ None ∷ None ∷ None ∷ None ∷ None ∷ None ∷ None
     ∷ []
-unfolding command_of command_of_words on_one_of on_map_of walk_of steps_of write_of extend_of plain_of keyed_of valued_of entry_of number_at bound_at on_set_of
-    plain_on_set_of with_item_of keep_of walk_items_of extend_items_of set_at
+unfolding command_of command_of_words on_one_of on_map_of walk_of steps_of write_of extend_of plain_of keyed_of valued_of entry_of number_at bound_at
+    on_set_of plain_on_set_of with_item_of keep_of walk_items_of extend_items_of set_at
 bad_set_commands = refl
 
 -- The replies to the six lines, as text.
