@@ -1,7 +1,7 @@
 #!/usr/bin/env python3
 """Counts the words of README.md, CHANGELOG.md and docs/*.md that people write, and looks that they stay readable.
 
-It fails where all pages have more than 15,000 words together, where a line of prose has more than 100 characters, and where a cell of a table has more than 25 words.
+It fails where all pages have more than 15,400 words together, where a line of prose has more than 100 characters, and where a cell of a table has more than 25 words.
 What scripts write counts nowhere: code that tools/pages.py quotes, and the tables between marks that another script fills. Blocks of code and addresses may be wide.
 With --each it prints how many words each page has."""
 import pathlib
