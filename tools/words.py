@@ -8,7 +8,7 @@ import pathlib
 import re
 import sys
 
-MOST_WORDS, MOST_CHARACTERS, MOST_IN_CELL = 15_000, 100, 25
+MOST_WORDS, MOST_CHARACTERS, MOST_IN_CELL = 15_400, 100, 25
 top = pathlib.Path(__file__).resolve().parent.parent
 QUOTED = re.compile(r"(?ms)^<!-- (?:code|body|proved|caller|imports|contracts|clauses|literal|lines|file): [^\n]+ -->\n```\w*\n.*?^```$")
 WRITTEN = re.compile(r"(?ms)^<!-- (figures|by crate|table: [^\n]+|stack|laws|costs|crates|promises|std|calls on one key|definitions below|definitions of proofs) -->\n.*?^<!-- end(?: of \1)? -->$")
