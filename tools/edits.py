@@ -196,7 +196,7 @@ def used_in(text, used):
 def defined(lines):
     """The names that lines of definitions define, with those of fields and constructors; none where there is an operator."""
     heads = [plain(it).partition(" : ")[0] for it in lines if " : " in plain(it) and not plain(it).startswith("module ")]
-    names = {it for head in heads if "=" not in head for it in words_of(re.split(r"[({]", head)[0])} - {"pub", "abbrev", "record", "data"}
+    names = {it for head in heads if "=" not in head for it in words_of(re.split(r"[({]", head)[0])} - {"pub", "abbrev", "unfoldable", "record", "data"}
     return set() if any(re.match(r"((abbrev|pub|private) )*\S*◌|infix", plain(it)) for it in lines) else names
 
 
