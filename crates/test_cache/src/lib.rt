@@ -1,0 +1,9 @@
+//! Caches beside a plain list in the order of use, and with requests for memory refused.
+#![tactic(auto)]
+
+#[cfg(test)]
+mod calls;
+#[cfg(test)]
+mod order;
+#[cfg(test)]
+mod refusals;
