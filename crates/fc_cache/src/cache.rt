@@ -1,5 +1,5 @@
 //! The cache: entries in the order of their last use, whose costs keep within a budget.
-use crate::entry::Entry;
+use crate::held::Held;
 use crate::put_error::PutError;
 use crate::recency::Recency;
 use fc_base::Handle;
@@ -56,8 +56,8 @@ impl<K: Eq + Hash + Copy, V, A: Handle> Cache<K, V, A> {
 
     /// The value at the key that is equal to this one, which does not count as a use. `None` where there is none.
     pub fn peek(&self, key: &K) -> Option<&V> {
-        let entry = self.recency.get(key)?;
-        Some(&entry.value)
+        let held = self.recency.get(key)?;
+        Some(&held.value)
     }
 }
 
@@ -76,7 +76,7 @@ impl<K: Eq + Hash + Copy + Drop, V: Drop, A: Handle> Cache<K, V, A> {
             return Err((PutError::Refused(error), key, value));
         }
         self.make_room(&key, cost);
-        self.recency.push(Entry { key, value, cost });
+        self.recency.push(key, Held { value, cost });
         self.used += cost;
         Ok(())
     }
@@ -92,15 +92,15 @@ impl<K: Eq + Hash + Copy + Drop, V: Drop, A: Handle> Cache<K, V, A> {
 
     /// Takes out the entry at the key that is equal to this one, and answers its value. `None` where there is none. It takes no memory.
     pub fn remove(&mut self, key: &K) -> Option<V> {
-        let entry = self.recency.take(key)?;
-        self.used -= entry.cost;
-        Some(entry.value)
+        let (_key, held) = self.recency.take(key)?;
+        self.used -= held.cost;
+        Some(held.value)
     }
 
     /// Takes out the entry that was used least lately. `None` where there is none. It takes no memory.
     pub fn pop_oldest(&mut self) -> Option<(K, V)> {
-        let entry = self.recency.take_first()?;
-        self.used -= entry.cost;
-        Some((entry.key, entry.value))
+        let (key, held) = self.recency.take_first()?;
+        self.used -= held.cost;
+        Some((key, held.value))
     }
 }

@@ -2,12 +2,12 @@
 #![tactic(auto)]
 
 pub mod cache;
-pub mod entry;
+pub mod held;
 mod links;
 pub mod put_error;
 mod recency;
 
 pub use cache::Cache;
-pub use entry::Entry;
 pub use fc_base::TryReserveError;
+pub use held::Held;
 pub use put_error::PutError;

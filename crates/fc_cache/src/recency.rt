@@ -1,6 +1,6 @@
 //! Entries in the order of their last use.
-use crate::entry::Entry;
-use crate::links::{Link, Links};
+use crate::held::Held;
+use crate::links::Links;
 use fc_base::{Handle, TryReserveError};
 use fc_hash::TryHashMap;
 use std::hash::Hash;
@@ -28,10 +28,10 @@ impl<K: Eq + Hash + Copy, V, A: Handle> Recency<K, V, A> {
         self.links.map.len()
     }
 
-    /// The entry at a key.
-    pub(crate) fn get(&self, key: &K) -> Option<&Entry<K, V>> {
+    /// What is held at a key.
+    pub(crate) fn get(&self, key: &K) -> Option<&Held<V>> {
         let link = self.links.map.get(key)?;
-        Some(&link.entry)
+        Some(&link.held)
     }
 
     /// Makes room for one more entry.
@@ -41,32 +41,22 @@ impl<K: Eq + Hash + Copy, V, A: Handle> Recency<K, V, A> {
 
     /// Has the entry at a key be the most lately used.
     pub(crate) fn touch(&mut self, key: &K) {
-        let Some(link) = self.links.map.get(key) else {
-            return;
-        };
-        let stored = link.entry.key;
-        let previous = link.previous;
-        let next = link.next;
-        self.links.join(previous, next);
-        self.links.join_last(stored);
+        if let Some(stored) = self.links.cut(key) {
+            self.links.join_last(stored);
+        }
     }
 }
 
 impl<K: Eq + Hash + Copy + Drop, V: Drop, A: Handle> Recency<K, V, A> {
     /// Takes the entry at a key out.
-    pub(crate) fn take(&mut self, key: &K) -> Option<Entry<K, V>> {
-        let link = self.links.map.remove(key)?;
-        let Link {
-            entry,
-            previous,
-            next,
-        } = link;
-        self.links.join(previous, next);
-        Some(entry)
+    pub(crate) fn take(&mut self, key: &K) -> Option<(K, Held<V>)> {
+        let stored = self.links.cut(key)?;
+        let held = self.links.take_out(&stored)?;
+        Some((stored, held))
     }
 
     /// Takes the entry out that was used least lately.
-    pub(crate) fn take_first(&mut self) -> Option<Entry<K, V>> {
+    pub(crate) fn take_first(&mut self) -> Option<(K, Held<V>)> {
         match self.links.first {
             Some(key) => self.take(&key),
             None => None,
@@ -74,16 +64,8 @@ impl<K: Eq + Hash + Copy + Drop, V: Drop, A: Handle> Recency<K, V, A> {
     }
 
     /// Puts an entry in as the most lately used, where there is room for it and its key is new.
-    pub(crate) fn push(&mut self, entry: Entry<K, V>) {
-        let key = entry.key;
-        let link = Link {
-            entry,
-            previous: None,
-            next: None,
-        };
-        match self.links.map.insert(key, link) {
-            Ok(_old) => self.links.join_last(key),
-            Err(_refused) => (),
-        }
+    pub(crate) fn push(&mut self, key: K, held: Held<V>) {
+        self.links.put_in(key, held);
+        self.links.join_last(key);
     }
 }
