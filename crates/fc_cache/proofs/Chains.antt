@@ -80,7 +80,7 @@ module _ {P : Type 0} {same : P → P → Bool} (laws : IsEquivalence same) wher
   set_here : (f g : P → P) (p x : P) → IsSet same f p x g → g p ≡ x
   set_here f g p x s = s p ∙ ap (λ b. cond b x (f p)) (laws.refl p)
 
-  turned : (p : P) (ps : List P) → AllByRecursion (λ q. same q p ≡ false) ps → Apart same p ps
+  pub turned : (p : P) (ps : List P) → AllByRecursion (λ q. same q p ≡ false) ps → Apart same p ps
   turned p ps all = all_map {R = λ q. same q p ≡ false} {S = λ q. same p q ≡ false} (λ q h. laws.symm p q ∙ h) ps all
 
   module _ (f g f' g' : P → P) where

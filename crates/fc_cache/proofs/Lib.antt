@@ -1,2 +1,4 @@
 mod Chains
+mod Found
+mod Rings
 mod Written
