@@ -1,7 +1,9 @@
 -- Entries and their look-ups: what one finds, and what is found once an entry is taken out or put at the end.
-use Rattle.std.proofs.Common.{◌≡◌, ℕ, suc, ◌+◌, Bool, true, false, cond, List, [], ◌∷◌, ◌++◌, map, length, Option, None, Some, option_map, is_some, refl, sym, ap, ◌∙◌, subst, arith, true≢false}
+use Rattle.std.proofs.Common.{◌≡◌, ℕ, suc, ◌+◌, Bool, true, false, cond, List, [], ◌∷◌, ◌++◌, map, length, Contains, Option, None, Some, option_map, is_some, refl, sym, ap, ◌∙◌, subst, arith, true≢false}
 use Rattle.std.proofs.lemmas.Option.{none-some, same_Some}
 use Rattle.std.proofs.lemmas.List.{map-append}
+use Rattle.std.proofs.lemmas.List.Elements.{All-contains, All-from_recursion, recursion_from_All}
+use Rattle.std.proofs.lemmas.List.Sorted.{IsPermutation-sym, Contains-permutation, length_permutation, All-permutation}
 use Rattle.std.proofs.lemmas.Map.Keys.{IsDistinct-push}
 use Rattle.std.proofs.lemmas.Map.Made.{is_some-lookup}
 use Rattle.std.specs.Cmp.{IsEquivalence}
@@ -9,7 +11,7 @@ use Rattle.std.specs.List.{AllByRecursion, IsDistinct, list_any}
 use Rattle.std.specs.Option.{option_eq, option_and_then}
 use Rattle.std.specs.Map.{keys_of, lookup, lookup_entry, remove_entry}
 use Rattle.std.proofs.lemmas.Map.{NonePasses, lookup-remove_entry, none_passes_from_lookup, lookup-none}
-use Rattle.fc_hash.specs.Pairs.{value_at}
+use Rattle.fc_hash.specs.Pairs.{value_at, IsPut, IsTaken}
 use Rattle.fc_cache.specs.declared.held.Held.{Held}
 use Rattle.fc_cache.specs.Links.{tagged, places_of}
 use Rattle.fc_cache.proofs.Chains.{Apart, all_map, parts}
@@ -84,6 +86,45 @@ module _ {K V : Type 0} where
       | false ↦ (all_rest (λ y. eq e.0 y ≡ false) es d.0, distinct_rest eq es d.1)
     ]
 
+module _ {K X : Type 0} {eq : K → K → Bool} (laws : IsEquivalence eq) where
+  found_behind : (e : K × X) (es zs : List (K × X)) → AllByRecursion (λ y. eq e.0 y ≡ false) (keys_of zs)
+      → AllByRecursion (λ y. lookup (eq y.0) es ≡ Some y.1) zs → AllByRecursion (λ y. lookup (eq y.0) (e ∷ es) ≡ Some y.1) zs
+  found_behind e es [] off all = tt
+  found_behind e es (z ∷ zs) off all =
+      (ap (λ b. cond b (Some e.1) (lookup (eq z.0) es)) (laws.symm z.0 e.0 ∙ off.0) ∙ all.0, found_behind e es zs off.1 all.1)
+
+  -- Each pair is found at its key.
+  pub pairs_found : (es : List (K × X)) → IsDistinct eq (keys_of es) → AllByRecursion (λ y. lookup (eq y.0) es ≡ Some y.1) es
+  unfolding IsDistinct
+  pairs_found [] d = tt
+  pairs_found (e ∷ es) d = (ap (λ b. cond b (Some e.1) (lookup (eq e.0) es)) (laws.refl e.0), found_behind e es es d.0 (pairs_found es d.1))
+
+  -- The value that is taken was found.
+  pub taken_value : (k : K) (w : X) (ps qs : List (K × X)) → IsDistinct eq (keys_of ps) → IsTaken eq k (Some w) ps qs → value_at eq k ps ≡ Some w
+  taken_value k w ps qs d taken =
+      let e : K × X = (taken.0, w) in
+      let here : Contains (e ∷ qs) e = (0, omega arith, refl) in
+      let P = λ (y : K × X). lookup (eq y.0) ps ≡ Some y.1 in
+      lookup_alike laws k taken.0 taken.1.0 ps
+      ∙ All-contains P ps e (All-from_recursion P ps (pairs_found ps d)) (Contains-permutation (e ∷ qs) ps e taken.1.1 here)
+
+module _ {K V : Type 0} where
+  untag : (P : K × (K × Held V) → Type 0) (es : List (K × Held V)) → AllByRecursion P (tagged es) → AllByRecursion (λ e. P (e.0, e)) es
+  untag P [] all = tt
+  untag P (e ∷ es) all = (all.0, untag P es all.1)
+
+  -- What is found at a key is the entry's value.
+  pub lookup_value : (test : K → Bool) (es : List (K × Held V)) → option_map (λ e. e.1) (lookup test (tagged es)) ≡ lookup test es
+  lookup_value test [] = refl
+  lookup_value test (e ∷ es) = elim (test e.0) as (λ b. option_map (λ y. y.1) (cond b (Some e) (lookup test (tagged es))) ≡ cond b (Some e.1) (lookup test es)) [
+    | true ↦ refl
+    | false ↦ lookup_value test es
+  ]
+
+pub none_behind : {X Y : Type 0} (f : X → Y) (o : Option X) → option_map f o ≡ None → o ≡ None
+none_behind f None h = refl
+none_behind f (Some x) h = cc
+
 module _ {K V : Type 0} {eq : K → K → Bool} (laws : IsEquivalence eq) where
   -- Places of different keys differ, also from that between the last and the first.
   all_places : (k : K) (es : List (K × Held V)) → AllByRecursion (λ y. eq k y ≡ false) (keys_of es) → Apart (option_eq eq) (Some k) (places_of es)
@@ -103,17 +144,9 @@ module _ {K V : Type 0} {eq : K → K → Bool} (laws : IsEquivalence eq) where
   unfolding IsDistinct
   ring_distinct es d = (none_apart es, places_distinct es d)
 
-  -- Each entry is found at its key.
-  found_behind : (e : K × Held V) (es zs : List (K × Held V)) → AllByRecursion (λ y. eq e.0 y ≡ false) (keys_of zs)
-      → AllByRecursion (λ y. lookup (eq y.0) (tagged es) ≡ Some y) zs → AllByRecursion (λ y. lookup (eq y.0) (tagged (e ∷ es)) ≡ Some y) zs
-  found_behind e es [] off all = tt
-  found_behind e es (z ∷ zs) off all =
-      (ap (λ b. cond b (Some e) (lookup (eq z.0) (tagged es))) (laws.symm z.0 e.0 ∙ off.0) ∙ all.0, found_behind e es zs off.1 all.1)
-
   pub all_found : (es : List (K × Held V)) → IsDistinct eq (keys_of es) → AllByRecursion (λ y. lookup (eq y.0) (tagged es) ≡ Some y) es
-  unfolding IsDistinct
-  all_found [] d = tt
-  all_found (e ∷ es) d = (ap (λ b. cond b (Some e) (lookup (eq e.0) (tagged es))) (laws.refl e.0), found_behind e es es d.0 (all_found es d.1))
+  all_found es d =
+      untag (λ y. lookup (eq y.0) (tagged es) ≡ Some y.1) es (pairs_found laws (tagged es) (subst (IsDistinct eq) (sym (keys_tagged es)) d))
 
   -- What is found once the entry at a key is taken out.
   pub lookup_rest : (k q : K) (es : List (K × Held V)) → IsDistinct eq (keys_of es)
@@ -138,13 +171,34 @@ module _ {K V : Type 0} {eq : K → K → Bool} (laws : IsEquivalence eq) where
       → lookup (eq q) (tagged (es ++ e ∷ [])) ≡ cond (eq e.0 q) (Some e) (lookup (eq q) (tagged es))
   lookup_push e q es none = ap (lookup (eq q)) (tagged_append es (e ∷ [])) ∙ push_tagged e q es (none_passes_from_lookup (eq e.0) (tagged es) none)
 
+  -- No entry before the last one is found at its key.
+  none_before : (k : K) (es : List (K × Held V)) → AllByRecursion (λ y. Apart eq y (k ∷ [])) (keys_of es) → lookup (eq k) (tagged es) ≡ None
+  none_before k [] all = refl
+  none_before k (e ∷ es) all = ap (λ b. cond b (Some e) (lookup (eq k) (tagged es))) (laws.symm k e.0 ∙ all.0.0) ∙ none_before k es all.1
+
+  pub last_is_new : (e : K × Held V) (es : List (K × Held V)) → IsDistinct eq (keys_of (es ++ e ∷ [])) → lookup (eq e.0) (tagged es) ≡ None
+  last_is_new e es d = none_before e.0 es (parts eq (keys_of es) (e.0 ∷ []) (subst (IsDistinct eq) (keys_append es (e ∷ [])) d)).between
+
   -- A key that a look-up misses is new.
   pub distinct_push : (e : K × Held V) (es : List (K × Held V)) → IsDistinct eq (keys_of es) → lookup (eq e.0) (tagged es) ≡ None → IsDistinct eq (keys_of (es ++ e ∷ []))
   distinct_push e es d none =
       subst (IsDistinct eq) (sym (keys_append es (e ∷ [])))
       (IsDistinct-push laws (keys_of es) e.0 d (ap (list_any (eq e.0)) (sym (keys_tagged es)) ∙ sym (is_some-lookup (eq e.0) (tagged es)) ∙ ap is_some none))
 
--- What is read of a link that is written.
-pub read_at : {K X Y : Type 0} (eq : K → K → Bool) (read : X → Option Y) (k q : K) (o : Option X) (ps qs : List (K × X)) → value_at eq q qs ≡ cond (eq k q) o (value_at eq q ps)
-    → option_and_then read (value_at eq q qs) ≡ cond (eq k q) (option_and_then read o) (option_and_then read (value_at eq q ps))
-read_at eq read k q o ps qs h = ap (option_and_then read) h ∙ elim (eq k q) as (λ b. option_and_then read (cond b o (value_at eq q ps)) ≡ cond b (option_and_then read o) (option_and_then read (value_at eq q ps))) [ true ↦ refl | false ↦ refl ]
+-- What is read of a pair that is written.
+pub read_at : {K X Y : Type 0} (eq : K → K → Bool) (read : Option X → Y) (k q : K) (o : Option X) (ps qs : List (K × X)) → value_at eq q qs ≡ cond (eq k q) o (value_at eq q ps)
+    → read (value_at eq q qs) ≡ cond (eq k q) (read o) (read (value_at eq q ps))
+read_at eq read k q o ps qs h = ap read h ∙ elim (eq k q) as (λ b. read (cond b o (value_at eq q ps)) ≡ cond b (read o) (read (value_at eq q ps))) [ true ↦ refl | false ↦ refl ]
+
+module _ {K X : Type 0} (eq : K → K → Bool) (k : K) (ps qs : List (K × X)) where
+  -- One pair more, where a new key was put; one fewer, where a pair was taken.
+  pub put_count : (v : X) (old : Option X) → value_at eq k ps ≡ None → IsPut eq k v old ps qs → length qs ≡ suc (length ps)
+  put_count v None none put = length_permutation ((k, v) ∷ ps) qs put.1 ∙ omega arith
+  put_count v (Some w) none put =
+      let pairs = (put.0, w) ∷ put.1 in
+      let off = All-permutation (λ e. eq k e.0 ≡ false) ps pairs (IsPermutation-sym pairs ps put.2.1)
+          (All-from_recursion (λ e. eq k e.0 ≡ false) ps (none_passes_from_lookup (eq k) ps none)) in
+      absurd (true≢false (sym put.2.0 ∙ (recursion_from_All (λ e. eq k e.0 ≡ false) pairs off).0))
+
+  pub taken_count : (w : X) → IsTaken eq k (Some w) ps qs → length ps ≡ suc (length qs)
+  taken_count w taken = length_permutation ((taken.0, w) ∷ qs) ps taken.1.1 ∙ omega arith

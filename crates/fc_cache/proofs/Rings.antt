@@ -1,5 +1,6 @@
 -- Links in a ring: what holds once one is cut out, put at the end, put in and taken out.
 use Rattle.std.proofs.Common.{◌≡◌, ℕ, suc, ◌+◌, Bool, true, false, cond, List, [], ◌∷◌, ◌++◌, map, length, Option, None, Some, option_map, is_some, refl, sym, ap, ◌∙◌, subst, arith, length-append}
+use Rattle.std.proofs.lemmas.Option.{none-some}
 use Rattle.std.specs.Cmp.{IsEquivalence}
 use Rattle.std.specs.Cmp.Lexicographic.{options_equiv}
 use Rattle.std.specs.List.{AllByRecursion, IsDistinct, list_any}
@@ -12,7 +13,7 @@ use Rattle.fc_cache.specs.declared.links.Links.{Links}
 use Rattle.fc_cache.specs.Chains.{IsSet, IsChain}
 use Rattle.fc_cache.specs.Links.{next_of, previous_of, IsIn, HoldsSame, IsJoined, entry_in, entries_from, entries_of, tagged, places_of, IsSound, IsWaiting, IsCut}
 use Rattle.fc_cache.proofs.Chains.{Apart, all_map, all_append, all_front, all_back, parts, stays, split, last_in, first_in, turned, cut_out, put_last}
-use Rattle.fc_cache.proofs.Found.{Between, between, tagged_append, places_append, keys_append, keys_tagged, distinct_rest, ring_distinct, all_found, lookup_rest, lookup_push, distinct_push, read_at}
+use Rattle.fc_cache.proofs.Found.{Between, between, tagged_append, places_append, keys_append, keys_tagged, distinct_rest, ring_distinct, all_found, lookup_rest, lookup_push, last_is_new, distinct_push, read_at}
 use Rattle.fc_cache.proofs.Written.{lookup_alike}
 
 module _ {K V A : Type 0} {eq : K → K → Bool} (laws : IsEquivalence eq) where
@@ -125,8 +126,20 @@ module _ {K V A : Type 0} {eq : K → K → Bool} (laws : IsEquivalence eq) wher
     last_is_in = last_in (next_of eq l) (previous_of eq l) (IsIn eq l) None (places_of rest) None w.chain
         (tt, all_in l rest (all_front (λ y. entry_in eq l y.0 ≡ Some y) rest (e ∷ []) all_waiting))
 
+    pub waiting_found : entry_in eq l e.0 ≡ Some e
+    waiting_found = (all_back (λ y. entry_in eq l y.0 ≡ Some y) rest (e ∷ []) all_waiting).0
+
+    abbrev shown : Option (Link K V) → Option (K × Held V)
+    shown o = option_map (λ y. (y.key, y.held)) o
+
+    pub waiting_there : value_at eq e.0 l.map.pairs ≡ None → ⊥
+    waiting_there none = none-some e (sym (ap shown none) ∙ waiting_found)
+
+    pub waiting_held : (x : Link K V) → value_at eq e.0 l.map.pairs ≡ Some x → Some x.held ≡ Some e.1
+    waiting_held x found = ap (option_map (λ y. y.1)) (sym (ap shown found) ∙ waiting_found)
+
     pub waiting_is_in : IsIn eq l (Some e.0)
-    waiting_is_in = ap is_some (all_back (λ y. entry_in eq l y.0 ≡ Some y) rest (e ∷ []) all_waiting).0
+    waiting_is_in = ap is_some waiting_found
 
     pub waiting_distinct : IsDistinct (option_eq eq) (None ∷ places_of rest ++ Some e.0 ∷ [])
     waiting_distinct = subst (λ ps. IsDistinct (option_eq eq) (None ∷ ps)) (places_append rest (e ∷ [])) (ring_distinct laws (rest ++ e ∷ []) w.distinct)
@@ -153,3 +166,52 @@ module _ {K V A : Type 0} {eq : K → K → Bool} (laws : IsEquivalence eq) wher
           (all_map {R = λ q. Apart same q (Some e.0 ∷ [])} {S = λ q. same q (Some e.0) ≡ false} (λ q h. h.0) (None ∷ places_of rest) p.between) in
       stays same (next_of eq l) (previous_of eq l) (next_of eq m) (previous_of eq m) (Some e.0) None (Some e.0) None s t None (places_of rest) None apart
           (all_append (λ q. same (Some e.0) q ≡ false) (places_of rest) (None ∷ []) apart.1 (refl, tt)) c
+
+  module _ (l m : Links K V A) (k : K) (o : Option (Link K V)) (values : (q : K) → value_at eq q m.map.pairs ≡ cond (eq k q) o (value_at eq q l.map.pairs)) where
+    next_set : m.first ≡ l.first → option_and_then (λ y. y.next) o ≡ None → IsSet (option_eq eq) (next_of eq l) (Some k) None (next_of eq m)
+    next_set first none None = first
+    next_set first none (Some q) =
+        read_at eq (option_and_then (λ y. y.next)) k q o l.map.pairs m.map.pairs (values q) ∙ ap (λ r. cond (eq k q) r (next_of eq l (Some q))) none
+
+    previous_set : m.last ≡ l.last → option_and_then (λ y. y.previous) o ≡ None → IsSet (option_eq eq) (previous_of eq l) (Some k) None (previous_of eq m)
+    previous_set last none None = last
+    previous_set last none (Some q) =
+        read_at eq (option_and_then (λ y. y.previous)) k q o l.map.pairs m.map.pairs (values q) ∙ ap (λ r. cond (eq k q) r (previous_of eq l (Some q))) none
+
+    entry_set : (q : K) → entry_in eq m q ≡ cond (eq k q) (option_map (λ y. (y.key, y.held)) o) (entry_in eq l q)
+    entry_set q = read_at eq (option_map (λ y. (y.key, y.held))) k q o l.map.pairs m.map.pairs (values q)
+
+    pub taken_out : (rest : List (K × Held V)) (h : Held V) → o ≡ None → IsWaiting eq l rest (k, h) → m.first ≡ l.first → m.last ≡ l.last
+        → length l.map.pairs ≡ suc (length m.map.pairs) → IsSound eq m rest
+    taken_out rest h none w first last fewer =
+        let e : K × Held V = (k, h) in
+        let p = parts eq (keys_of rest) (k ∷ []) (subst (IsDistinct eq) (keys_append rest (e ∷ [])) w.distinct) in
+        let was = w.count in
+        let long : length (rest ++ e ∷ []) ≡ length rest + 1 = length-append rest (e ∷ []) in
+        let new = last_is_new laws e rest w.distinct in
+        record {
+          chain = ring_stays l m rest e w.distinct (next_set first (ap (option_and_then (λ y. y.next)) none)) (previous_set last (ap (option_and_then (λ y. y.previous)) none)) w.chain;
+          distinct = p.front;
+          held = λ q. entry_set q ∙ ap (λ r. cond (eq k q) (option_map (λ y. (y.key, y.held)) r) (entry_in eq l q)) none
+              ∙ ap (cond (eq k q) None) (w.held q ∙ lookup_push laws e q rest new)
+              ∙ (elim (eq k q) as (λ b. eq k q ≡ b → cond b None (cond b (Some e) (lookup (eq q) (tagged rest))) ≡ lookup (eq q) (tagged rest)) [
+                | true ↦ λ t. sym new ∙ lookup_alike laws k q t (tagged rest)
+                | false ↦ λ t. refl
+              ]) refl;
+          count = omega arith;
+        }
+
+    pub put_in : (es : List (K × Held V)) (h : Held V) → o ≡ Some (record { key = k; held = h; previous = None; next = None }) → IsSound eq l es
+        → lookup (eq k) (tagged es) ≡ None → m.first ≡ l.first → m.last ≡ l.last → length m.map.pairs ≡ suc (length l.map.pairs) → IsWaiting eq m es (k, h)
+    put_in es h some s new first last more =
+        let e : K × Held V = (k, h) in
+        let was = s.count in
+        let long : length (es ++ e ∷ []) ≡ length es + 1 = length-append es (e ∷ []) in
+        let distinct = distinct_push laws e es s.distinct new in
+        record {
+          chain = ring_stays l m es e distinct (next_set first (ap (option_and_then (λ y. y.next)) some)) (previous_set last (ap (option_and_then (λ y. y.previous)) some)) s.chain;
+          distinct = distinct;
+          held = λ q. entry_set q ∙ ap (λ r. cond (eq k q) (option_map (λ y. (y.key, y.held)) r) (entry_in eq l q)) some
+              ∙ ap (cond (eq k q) (Some e)) (s.held q) ∙ sym (lookup_push laws e q es new);
+          count = omega arith;
+        }

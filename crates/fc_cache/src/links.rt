@@ -113,7 +113,10 @@ impl<K: Eq + Hash + Copy + Drop, V: Drop, A: Handle> Links<K, V, A> {
             previous: None,
             next: None,
         };
-        let _put = self.map.insert(key, link);
+        match self.map.insert(key, link) {
+            Ok(old) => drop(old),
+            Err(_refused) => (),
+        }
     }
 
     /// Takes the value out that is in no ring.
@@ -122,6 +125,8 @@ impl<K: Eq + Hash + Copy + Drop, V: Drop, A: Handle> Links<K, V, A> {
         ensures taken { (rest : List (K × Held V)) (h : Held V) → IsWaiting K.eq self.old rest (key.now, h) → (result ≡ Some h) × IsSound K.eq self.new rest }
         ensures spare { self.old.map.spare ≤ self.new.map.spare }
     {
+        // No two keys are equal: the map tells that by its length.
+        let _known = self.map.len();
         let link = self.map.remove(key)?;
         Some(link.held)
     }
