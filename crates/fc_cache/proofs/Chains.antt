@@ -54,6 +54,11 @@ module _ {P : Type 0} (same : P → P → Bool) where
   stays f g f' g' p x r y s t a (q ∷ qs) z ap' ar c =
       (set_other f f' p x s a ap'.0 ∙ c.0, set_other g g' r y t q ar.0 ∙ c.1, stays f g f' g' p x r y s t q qs z ap'.1 ar.1 c.2)
 
+module _ {P : Type 0} (f g f' g' : P → P) where
+  pub chain_alike : ((q : P) → f' q ≡ f q) → ((q : P) → g' q ≡ g q) → (a : P) (qs : List P) (z : P) → IsChain f g a qs z → IsChain f' g' a qs z
+  chain_alike s t a [] z c = (s a ∙ c.0, t z ∙ c.1)
+  chain_alike s t a (q ∷ qs) z c = (s a ∙ c.0, t q ∙ c.1, chain_alike s t q qs z c.2)
+
 module _ {P : Type 0} (f g : P → P) where
   pub record Split (a : P) (us : List P) (k : P) (vs : List P) (z : P) : Type 0 where
     pub front : IsChain f g a us k

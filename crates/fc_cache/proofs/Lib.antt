@@ -1,4 +1,5 @@
 mod Chains
 mod Found
+mod Recent
 mod Rings
 mod Written

@@ -10,6 +10,11 @@ pub record Cached (K V : Type 0) : Type 0 where
   pub entries : List (K × Held V)
   pub budget : ℕ
 
+-- Entries in the order of their last use, and how many more there is room for.
+pub record Recent (K V : Type 0) : Type 0 where
+  pub entries : List (K × Held V)
+  pub spare : ℕ
+
 module _ {K V : Type 0} where
   -- The sum of the costs.
   abbrev pub total_cost : List (K × Held V) → ℕ
