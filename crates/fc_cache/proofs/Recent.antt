@@ -9,6 +9,7 @@ use Rattle.std.specs.Option.{option_and_then, option_to_list}
 use Rattle.std.specs.Prelude.{MatchOption}
 use Rattle.fc_hash.specs.Pairs.{value_at}
 use Rattle.fc_cache.specs.declared.held.Held.{Held}
+use Rattle.fc_cache.specs.declared.links.Link.{Link}
 use Rattle.fc_cache.specs.declared.links.Links.{Links}
 use Rattle.fc_cache.specs.Entries.{used_last}
 use Rattle.fc_cache.specs.Links.{next_of, previous_of, entry_in, tagged, places_of, IsSound}
@@ -33,10 +34,13 @@ module _ {K V : Type 0} where
         ∙ ap (λ o. remove_entry (eq q) es ++ option_to_list o) (sym h ∙ lookup_tagged (eq q) es)
 
 module _ {K V A : Type 0} {eq : K → K → Bool} (laws : IsEquivalence eq) (l : Links K V A) where
+  abbrev second : K × Held V → Held V
+  second e = e.1
+
   pub held_at : (es : List (K × Held V)) → IsSound eq l es → (q : K) → option_map (λ x. x.held) (value_at eq q l.map.pairs) ≡ lookup (eq q) es
   held_at es s q =
-      (elim (value_at eq q l.map.pairs) as (λ o. option_map (λ x. x.held) o ≡ option_map (λ e. e.1) (option_map (λ x. (x.key, x.held)) o)) [ None ↦ refl | Some x ↦ refl ])
-      ∙ ap (option_map (λ e. e.1)) (s.held q) ∙ lookup_value (eq q) es
+      (elim (value_at eq q l.map.pairs) as (λ o. option_map (λ x. x.held) o ≡ option_map second (option_map (λ (x : Link K V). (x.key, x.held)) o)) [ None ↦ refl | Some x ↦ refl ])
+      ∙ ap (option_map second) (s.held q) ∙ lookup_value (eq q) es
 
   pub first_taken : (es : List (K × Held V)) → IsSound eq l es → (k : K) → l.first ≡ Some k → (r : Option (K × Held V)) (rest : List (K × Held V))
       → r ≡ lookup_entry (eq k) es → rest ≡ remove_entry (eq k) es → MatchOption r ((es ≡ []) × (rest ≡ [])) (λ e. es ≡ e ∷ rest)

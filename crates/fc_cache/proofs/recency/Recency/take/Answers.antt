@@ -24,7 +24,7 @@ returns-clause-taken g c =
     let eq = g.K.PartialEq.eq in
     let cut = c.in_ok-stored.ensures.cut in
     let same = (c.in_ok-held.ensures.taken _ cut.0 cut.2).0 in
-    rw (← c.self.view_is) (ap (λ h. Some (c.in_ok-stored.stored, h)) cc ∙ sym cut.1 ∙ lookup_tagged (eq c.args.key.now) (entries_of eq c.self.inside.links))
+    rw (← c.self.view_is) (ap (λ h. Some (c.in_ok-stored.stored, h)) (cc) ∙ sym cut.1 ∙ lookup_tagged (eq c.args.key.now) (entries_of eq c.self.inside.links))
 
 pub returns-clause-entries : goal.returns-clause-entries
 returns-clause-entries g c =
