@@ -1,9 +1,12 @@
 -- The entries of a cache, each a key with its value and its cost, from the least to the most lately used.
-use Rattle.std.specs.Prelude.{◌≡◌, ℕ, ◌≤◌, Bool, cond, List, [], ◌∷◌, ◌++◌, leb}
+use Rattle.std.specs.Prelude.{◌≡◌, ℕ, ◌+◌, ◌<◌, ◌≤◌, Bool, cond, List, [], ◌∷◌, ◌++◌, leb}
 use Rattle.std.specs.List.{IsDistinct, sum_by}
 use Rattle.std.specs.Option.{option_to_list}
 use Rattle.std.specs.Map.{keys_of, values_of, lookup_entry, remove_entry}
+use Rattle.fc_base.specs.Growth.{append_error}
 use Rattle.fc_cache.specs.declared.held.Held.{Held}
+use Rattle.fc_cache.specs.declared.put_error.PutError.{PutError}
+use Rattle.fc_cache.specs.declared.put_error.PutError.TheVariants.{OverBudget, Refused}
 
 -- A cache as contracts see it: its entries, and the greatest sum of their costs.
 pub record Cached (K V : Type 0) : Type 0 where
@@ -34,3 +37,8 @@ module _ {K V : Type 0} where
     pub record IsCached (c : Cached K V) : Type 0 where
       pub distinct : IsDistinct eq (keys_of c.entries)
       pub within : total_cost c.entries ≤ c.budget
+
+-- Why an entry is not put into a cache of this budget, at this cost, beside n others.
+abbrev pub IsRefusal : ℕ → ℕ → ℕ → PutError → Type 0
+IsRefusal budget cost n OverBudget = budget < cost
+IsRefusal budget cost n (Refused e) = (cost ≤ budget) × (e ≡ append_error n 1)

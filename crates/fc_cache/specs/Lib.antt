@@ -1,3 +1,4 @@
 pub mod Chains
 pub mod Entries
+pub mod Lends
 pub mod Links
