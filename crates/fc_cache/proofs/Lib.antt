@@ -1,4 +1,5 @@
 mod Chains
+mod Costs
 mod Found
 mod Recent
 mod Rings

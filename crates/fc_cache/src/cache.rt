@@ -103,7 +103,6 @@ impl<K: Eq + Hash + Copy, V, A: Handle> Cache<K, V, A> {
 
 impl<K: Eq + Hash + Copy + Drop, V: Drop, A: Handle> Cache<K, V, A> {
     ghost use Rattle.fc_cache.specs.declared.held.Held.{Held};
-    ghost use Rattle.fc_cache.specs.declared.put_error.PutError.TheVariants.{OverBudget};
     ghost use Rattle.fc_cache.specs.Entries.{IsRefusal, rest_within};
 
     /// Puts an entry in as the most lately used. An entry at an equal key is dropped, and of the others, from the least lately used on, as
@@ -168,8 +167,6 @@ fn drop_at<K: Eq + Hash + Copy + Drop, V: Drop, A: Handle>(
     ensures used { result ≡ total_cost recency.new.entries }
     ensures spare { recency.old.spare ≤ recency.new.spare }
 {
-    // No two keys are equal: the number of entries tells it.
-    let _known = recency.len();
     match recency.take(key) {
         Some((_key, held)) => used - held.cost,
         None => used,

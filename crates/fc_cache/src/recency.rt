@@ -73,7 +73,8 @@ impl<K: Eq + Hash + Copy, V, A: Handle> Recency<K, V, A> {
 
     /// Has the entry at a key be the most lately used.
     pub(crate) fn touch(&mut self, key: &K)
-        ensures { self.new.entries ≡ used_last K.eq key.now self.old.entries }
+        ensures entries { self.new.entries ≡ used_last K.eq key.now self.old.entries }
+        ensures value { lookup (K.eq key.now) self.new.entries ≡ lookup (K.eq key.now) self.old.entries }
     {
         match self.links.cut(key) {
             Some(stored) => self.links.join_last(stored),
@@ -87,6 +88,7 @@ impl<K: Eq + Hash + Copy + Drop, V: Drop, A: Handle> Recency<K, V, A> {
     pub(crate) fn take(&mut self, key: &K) -> Option<(K, Held<V>)>
         ensures taken { result ≡ lookup_entry (K.eq key.now) self.old.entries }
         ensures entries { self.new.entries ≡ remove_entry (K.eq key.now) self.old.entries }
+        ensures gone { lookup (K.eq key.now) self.new.entries ≡ None }
         ensures spare { self.old.spare ≤ self.new.spare }
     {
         let stored = self.links.cut(key)?;
