@@ -17,7 +17,7 @@ use Rattle.fc_cache.proofs.Found.{between, lookup_tagged, lookup_value}
 use Rattle.fc_cache.proofs.Recent.{remove_missed}
 
 module _ {K V : Type 0} where
-  abbrev held_of : K × Held V → Held V
+  abbrev pub held_of : K × Held V → Held V
   held_of e = e.1
 
   pub total_append : (xs ys : List (K × Held V)) → total_cost (xs ++ ys) ≡ total_cost xs + total_cost ys
