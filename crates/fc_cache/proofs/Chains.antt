@@ -1,5 +1,5 @@
 -- Chains of places: what a write elsewhere leaves, and how a place is cut out and put at the end.
-use Rattle.std.proofs.Common.{◌≡◌, Bool, true, false, cond, List, [], ◌∷◌, ◌++◌, refl, sym, ap, ◌∙◌, subst}
+use Rattle.std.proofs.Common.{◌≡◌, Bool, false, cond, List, [], ◌∷◌, ◌++◌, sym, ap, ◌∙◌, subst}
 use Rattle.std.proofs.lemmas.List.{append-nil}
 use Rattle.std.specs.Cmp.{IsEquivalence}
 use Rattle.std.specs.List.{AllByRecursion, IsDistinct}
@@ -115,7 +115,7 @@ module _ {P : Type 0} {same : P → P → Bool} (laws : IsEquivalence same) wher
         let before : Apart same (g k) (v ∷ vs) = (last_in f g (λ q. Apart same q (k ∷ v ∷ vs)) z us k on.front p.between).1 in
         let behind : Apart same v (vs ++ z ∷ []) = all_append (λ q. same v q ≡ false) vs (z ∷ []) p.back.1.0 (laws.symm v z ∙ p.between.0.1.0, tt) in
         joined f' g' z us v vs z (subst (λ n. IsChain f' g' z us n) on.back.0 made)
-            (stays same f g f' g' (g k) (f k) (f k) (g k) s t v vs z before (subst (λ n. Apart same n (vs ++ z ∷ [])) (sym on.back.0) behind) on.back.2)
+        (stays same f g f' g' (g k) (f k) (f k) (g k) s t v vs z before (subst (λ n. Apart same n (vs ++ z ∷ [])) (sym on.back.0) behind) on.back.2)
 
   -- A new place is put at the end of a ring by two joins.
   pub put_last : (f g f' g' f'' g'' : P → P) (z : P) (us : List P) (k : P) → IsChain f g z us z → IsDistinct same (z ∷ us ++ k ∷ [])
@@ -126,4 +126,4 @@ module _ {P : Type 0} {same : P → P → Bool} (laws : IsEquivalence same) wher
       let apart : Apart same k (z ∷ us) = turned k (z ∷ us) (all_map {R = λ q. Apart same q (k ∷ [])} {S = λ q. same q k ≡ false} (λ q h. h.0) (z ∷ us) p.between) in
       let made : IsChain f' g' z us k = retarget f g f' g' z us z k c p.front apart.1 s t in
       joined f'' g'' z us k [] z (stays same f' g' f'' g'' k z z k s' t' z us k apart d.0 made)
-          (set_here f' f'' k z s', set_here g' g'' z k t')
+      (set_here f' f'' k z s', set_here g' g'' z k t')

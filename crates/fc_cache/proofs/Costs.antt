@@ -12,7 +12,6 @@ use Rattle.std.specs.Map.{keys_of, values_of, lookup, lookup_entry, remove_entry
 use Rattle.std.specs.Option.{option_to_list, unwrap_or}
 use Rattle.fc_cache.specs.declared.held.Held.{Held}
 use Rattle.fc_cache.specs.Entries.{total_cost, rest_within, used_last}
-use Rattle.fc_cache.specs.Links.{tagged}
 use Rattle.fc_cache.proofs.Found.{between, lookup_tagged, lookup_value}
 use Rattle.fc_cache.proofs.Recent.{remove_missed}
 

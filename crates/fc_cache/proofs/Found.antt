@@ -1,5 +1,5 @@
 -- Entries and their look-ups: what one finds, and what is found once an entry is taken out or put at the end.
-use Rattle.std.proofs.Common.{◌≡◌, ℕ, suc, ◌+◌, Bool, true, false, cond, List, [], ◌∷◌, ◌++◌, map, length, Contains, Option, None, Some, option_map, is_some, refl, sym, ap, ◌∙◌, subst, arith, true≢false}
+use Rattle.std.proofs.Common.{◌≡◌, suc, Bool, true, false, cond, List, [], ◌∷◌, ◌++◌, length, Contains, Option, None, Some, option_map, is_some, refl, sym, ap, ◌∙◌, subst, arith, true≢false}
 use Rattle.std.proofs.lemmas.Option.{none-some, same_Some}
 use Rattle.std.proofs.lemmas.List.{map-append}
 use Rattle.std.proofs.lemmas.List.Elements.{All-contains, All-from_recursion, recursion_from_All}
@@ -8,13 +8,13 @@ use Rattle.std.proofs.lemmas.Map.Keys.{IsDistinct-push}
 use Rattle.std.proofs.lemmas.Map.Made.{is_some-lookup}
 use Rattle.std.specs.Cmp.{IsEquivalence}
 use Rattle.std.specs.List.{AllByRecursion, IsDistinct, list_any}
-use Rattle.std.specs.Option.{option_eq, option_and_then}
+use Rattle.std.specs.Option.{option_eq}
 use Rattle.std.specs.Map.{keys_of, lookup, lookup_entry, remove_entry}
-use Rattle.std.proofs.lemmas.Map.{NonePasses, lookup-remove_entry, none_passes_from_lookup, lookup-none}
+use Rattle.std.proofs.lemmas.Map.{NonePasses, lookup-remove_entry, none_passes_from_lookup}
 use Rattle.fc_hash.specs.Pairs.{value_at, IsPut, IsTaken}
 use Rattle.fc_cache.specs.declared.held.Held.{Held}
 use Rattle.fc_cache.specs.Links.{tagged, places_of}
-use Rattle.fc_cache.proofs.Chains.{Apart, all_map, parts}
+use Rattle.fc_cache.proofs.Chains.{Apart, parts}
 use Rattle.fc_cache.proofs.Written.{lookup_alike}
 
 module _ {K X : Type 0} (test : K → Bool) where
@@ -56,19 +56,19 @@ module _ {K V : Type 0} where
     between [] e h = absurd (none-some e h)
     between (f ∷ es) e h = (elim (test f.0) as (λ b. test f.0 ≡ b → cond b (Some f) (lookup test (tagged es)) ≡ Some e → Between test (f ∷ es) e) [
       | true ↦ λ t s. let same : f ≡ e = same_Some f e s in record {
-          front = [];
-          back = es;
-          passes = subst (λ x. test x.0 ≡ true) same t;
-          is = ap (λ x. x ∷ es) same;
-          rest = ap (λ b. cond b es (f ∷ remove_entry test es)) t;
-        }
+        front = [];
+        back = es;
+        passes = subst (λ x. test x.0 ≡ true) same t;
+        is = ap (λ x. x ∷ es) same;
+        rest = ap (λ b. cond b es (f ∷ remove_entry test es)) t;
+      }
       | false ↦ λ t s. let on = between es e s in record {
-          front = f ∷ on.front;
-          back = on.back;
-          passes = on.passes;
-          is = ap (λ l. f ∷ l) on.is;
-          rest = ap (λ b. cond b es (f ∷ remove_entry test es)) t ∙ ap (λ l. f ∷ l) on.rest;
-        }
+        front = f ∷ on.front;
+        back = on.back;
+        passes = on.passes;
+        is = ap (λ l. f ∷ l) on.is;
+        rest = ap (λ b. cond b es (f ∷ remove_entry test es)) t ∙ ap (λ l. f ∷ l) on.rest;
+      }
     ]) refl h
 
     all_rest : (R : K → Type 0) (es : List (K × Held V)) → AllByRecursion R (keys_of es) → AllByRecursion R (keys_of (remove_entry test es))
@@ -197,7 +197,7 @@ module _ {K X : Type 0} (eq : K → K → Bool) (k : K) (ps qs : List (K × X)) 
   put_count v (Some w) none put =
       let pairs = (put.0, w) ∷ put.1 in
       let off = All-permutation (λ e. eq k e.0 ≡ false) ps pairs (IsPermutation-sym pairs ps put.2.1)
-          (All-from_recursion (λ e. eq k e.0 ≡ false) ps (none_passes_from_lookup (eq k) ps none)) in
+      (All-from_recursion (λ e. eq k e.0 ≡ false) ps (none_passes_from_lookup (eq k) ps none)) in
       absurd (true≢false (sym put.2.0 ∙ (recursion_from_All (λ e. eq k e.0 ≡ false) pairs off).0))
 
   pub taken_count : (w : X) → IsTaken eq k (Some w) ps qs → length ps ≡ suc (length qs)

@@ -1,5 +1,5 @@
 -- Sound links, as the entries that they stand for.
-use Rattle.std.proofs.Common.{◌≡◌, ℕ, Bool, true, false, cond, List, [], ◌∷◌, ◌++◌, length, Option, None, Some, option_map, refl, sym, ap, ◌∙◌, subst}
+use Rattle.std.proofs.Common.{◌≡◌, Bool, true, false, cond, List, [], ◌∷◌, ◌++◌, Option, None, Some, option_map, refl, sym, ap, ◌∙◌, subst}
 use Rattle.std.proofs.lemmas.List.{append-nil}
 use Rattle.std.proofs.lemmas.List.Sorted.{length_permutation}
 use Rattle.std.specs.Cmp.{IsEquivalence}
@@ -12,7 +12,7 @@ use Rattle.fc_cache.specs.declared.held.Held.{Held}
 use Rattle.fc_cache.specs.declared.links.Link.{Link}
 use Rattle.fc_cache.specs.declared.links.Links.{Links}
 use Rattle.fc_cache.specs.Entries.{used_last}
-use Rattle.fc_cache.specs.Links.{next_of, previous_of, entry_in, tagged, places_of, IsSound}
+use Rattle.fc_cache.specs.Links.{next_of, previous_of, tagged, places_of, IsSound}
 use Rattle.fc_cache.proofs.Chains.{chain_alike}
 use Rattle.fc_cache.proofs.Found.{lookup_tagged, lookup_value}
 

@@ -1,9 +1,9 @@
 -- Links in a ring: what holds once one is cut out, put at the end, put in and taken out.
-use Rattle.std.proofs.Common.{◌≡◌, ℕ, suc, ◌+◌, Bool, true, false, cond, List, [], ◌∷◌, ◌++◌, map, length, Option, None, Some, option_map, is_some, refl, sym, ap, ◌∙◌, subst, arith, length-append}
+use Rattle.std.proofs.Common.{◌≡◌, suc, ◌+◌, Bool, true, false, cond, List, [], ◌∷◌, ◌++◌, length, Option, None, Some, option_map, is_some, refl, sym, ap, ◌∙◌, subst, arith, length-append}
 use Rattle.std.proofs.lemmas.Option.{none-some}
 use Rattle.std.specs.Cmp.{IsEquivalence}
 use Rattle.std.specs.Cmp.Lexicographic.{options_equiv}
-use Rattle.std.specs.List.{AllByRecursion, IsDistinct, list_any}
+use Rattle.std.specs.List.{AllByRecursion, IsDistinct}
 use Rattle.std.specs.Option.{option_eq, option_and_then, option_to_list}
 use Rattle.std.specs.Map.{keys_of, lookup, remove_entry}
 use Rattle.fc_hash.specs.Pairs.{value_at}
@@ -11,9 +11,9 @@ use Rattle.fc_cache.specs.declared.held.Held.{Held}
 use Rattle.fc_cache.specs.declared.links.Link.{Link}
 use Rattle.fc_cache.specs.declared.links.Links.{Links}
 use Rattle.fc_cache.specs.Chains.{IsSet, IsChain}
-use Rattle.fc_cache.specs.Links.{next_of, previous_of, IsIn, HoldsSame, IsJoined, entry_in, entries_from, entries_of, tagged, places_of, IsSound, IsWaiting, IsCut}
+use Rattle.fc_cache.specs.Links.{next_of, previous_of, IsIn, IsJoined, entry_in, entries_from, entries_of, tagged, places_of, IsSound, IsWaiting}
 use Rattle.fc_cache.proofs.Chains.{Apart, all_map, all_append, all_front, all_back, parts, stays, split, last_in, first_in, turned, cut_out, put_last}
-use Rattle.fc_cache.proofs.Found.{Between, between, tagged_append, places_append, keys_append, keys_tagged, distinct_rest, ring_distinct, all_found, lookup_rest, lookup_push, last_is_new, distinct_push, read_at}
+use Rattle.fc_cache.proofs.Found.{between, places_append, keys_append, distinct_rest, ring_distinct, all_found, lookup_rest, lookup_push, last_is_new, distinct_push, read_at}
 use Rattle.fc_cache.proofs.Written.{lookup_alike}
 
 module _ {K V A : Type 0} {eq : K → K → Bool} (laws : IsEquivalence eq) where
@@ -163,9 +163,9 @@ module _ {K V A : Type 0} {eq : K → K → Bool} (laws : IsEquivalence eq) wher
       let ring = subst (λ ps. IsDistinct same (None ∷ ps)) (places_append rest (e ∷ [])) (ring_distinct laws (rest ++ e ∷ []) d) in
       let p = parts same (None ∷ places_of rest) (Some e.0 ∷ []) ring in
       let apart : Apart same (Some e.0) (None ∷ places_of rest) = turned (options_equiv laws) (Some e.0) (None ∷ places_of rest)
-          (all_map {R = λ q. Apart same q (Some e.0 ∷ [])} {S = λ q. same q (Some e.0) ≡ false} (λ q h. h.0) (None ∷ places_of rest) p.between) in
+      (all_map {R = λ q. Apart same q (Some e.0 ∷ [])} {S = λ q. same q (Some e.0) ≡ false} (λ q h. h.0) (None ∷ places_of rest) p.between) in
       stays same (next_of eq l) (previous_of eq l) (next_of eq m) (previous_of eq m) (Some e.0) None (Some e.0) None s t None (places_of rest) None apart
-          (all_append (λ q. same (Some e.0) q ≡ false) (places_of rest) (None ∷ []) apart.1 (refl, tt)) c
+      (all_append (λ q. same (Some e.0) q ≡ false) (places_of rest) (None ∷ []) apart.1 (refl, tt)) c
 
   module _ (l m : Links K V A) (k : K) (o : Option (Link K V)) (values : (q : K) → value_at eq q m.map.pairs ≡ cond (eq k q) o (value_at eq q l.map.pairs)) where
     next_set : m.first ≡ l.first → option_and_then (λ y. y.next) o ≡ None → IsSet (option_eq eq) (next_of eq l) (Some k) None (next_of eq m)

@@ -1,5 +1,5 @@
 -- The entries of a cache, each a key with its value and its cost, from the least to the most lately used.
-use Rattle.std.specs.Prelude.{◌≡◌, ℕ, ◌+◌, ◌<◌, ◌≤◌, Bool, cond, List, [], ◌∷◌, ◌++◌, leb}
+use Rattle.std.specs.Prelude.{◌≡◌, ℕ, ◌<◌, ◌≤◌, Bool, cond, List, [], ◌∷◌, ◌++◌, leb}
 use Rattle.std.specs.List.{IsDistinct, sum_by}
 use Rattle.std.specs.Option.{option_to_list}
 use Rattle.std.specs.Map.{keys_of, values_of, lookup_entry, remove_entry}

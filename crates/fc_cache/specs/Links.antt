@@ -5,7 +5,6 @@ use Rattle.std.specs.Option.{option_eq, option_and_then, option_to_list}
 use Rattle.std.specs.Map.{keys_of, lookup, remove_entry}
 use Rattle.fc_hash.specs.Pairs.{value_at}
 use Rattle.fc_cache.specs.declared.held.Held.{Held}
-use Rattle.fc_cache.specs.declared.links.Link.{Link}
 use Rattle.fc_cache.specs.declared.links.Links.{Links}
 use Rattle.fc_cache.specs.Chains.{IsSet, IsChain}
 

@@ -1,12 +1,11 @@
 use Rattle.std.proofs.Common.{refl, sym, ap, ◌∙◌, option_map}
-use Rattle.fc_cache.specs.Entries.{Cached, total_cost}
+use Rattle.fc_cache.specs.Entries.{total_cost}
 use Rattle.fc_cache.proofs.Costs.{cost_used}
 use Rattle.fc_cache.proofs.cache.Cache.get.Goals as goal
 
 pub invariant_of-self : goal.invariant_of-self
 invariant_of-self g c =
-    let es = c.self.inside.recency.entries in
-    (
+    let es = c.self.inside.recency.entries in (
       c.self.invariant.0 ∙ sym (ap total_cost c.touch.ensures.entries ∙ cost_used g.met.K.Eq.laws c.args.key.now es),
       c.self.invariant.1,
     )

@@ -1,5 +1,4 @@
-use Rattle.std.proofs.Common.{◌≡◌, None, Some, sym, ap, ◌∙◌, option_map, arith}
-use Rattle.std.specs.Map.{lookup_entry}
+use Rattle.std.proofs.Common.{sym, ap, ◌∙◌, option_map, arith}
 use Rattle.fc_cache.specs.Entries.{total_cost}
 use Rattle.fc_cache.proofs.Costs.{held_of, value_of, cost_missed, cost_taken}
 use Rattle.fc_cache.proofs.cache.Cache.remove.Goals as goal

@@ -1,4 +1,4 @@
-use Rattle.std.proofs.Common.{◌≡◌, Some, sym, ap, subst, rules}
+use Rattle.std.proofs.Common.{◌≡◌, Some, subst, rules}
 use Rattle.fc_hash.specs.Pairs.{value_at}
 use Rattle.fc_cache.specs.Links.{IsIn, entries_of}
 use Rattle.fc_cache.proofs.Rings.{beside, entry_found, previous_is, next_is, cut}

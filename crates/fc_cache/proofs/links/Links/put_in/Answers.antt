@@ -1,4 +1,4 @@
-use Rattle.std.proofs.Common.{◌≡◌, None, refl, sym, ◌∙◌}
+use Rattle.std.proofs.Common.{◌≡◌, None, refl, ◌∙◌}
 use Rattle.std.specs.Map.{lookup}
 use Rattle.fc_cache.specs.Links.{entries_of, tagged}
 use Rattle.fc_cache.proofs.Found.{lookup_value, none_behind, put_count}
