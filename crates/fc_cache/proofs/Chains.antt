@@ -123,7 +123,8 @@ module _ {P : Type 0} {same : P → P → Bool} (laws : IsEquivalence same) wher
   unfolding IsDistinct
   put_last f g f' g' f'' g'' z us k c d s t s' t' =
       let p = parts same (z ∷ us) (k ∷ []) d in
-      let apart : Apart same k (z ∷ us) = turned k (z ∷ us) (all_map {R = λ q. Apart same q (k ∷ [])} {S = λ q. same q k ≡ false} (λ q h. h.0) (z ∷ us) p.between) in
+      let apart : Apart same k (z ∷ us) = turned k (z ∷ us)
+      (all_map {R = λ q. Apart same q (k ∷ [])} {S = λ q. same q k ≡ false} (λ q h. h.0) (z ∷ us) p.between) in
       let made : IsChain f' g' z us k = retarget f g f' g' z us z k c p.front apart.1 s t in
       joined f'' g'' z us k [] z (stays same f' g' f'' g'' k z z k s' t' z us k apart d.0 made)
       (set_here f' f'' k z s', set_here g' g'' z k t')

@@ -48,10 +48,11 @@ module _ {K V : Type 0} where
   -- A look-up goes on where the first entries miss it.
   lookup_on : (test : K → Bool) (xs ys : List (K × Held V)) → lookup test xs ≡ None → lookup test (xs ++ ys) ≡ lookup test ys
   lookup_on test [] ys none = refl
-  lookup_on test (x ∷ xs) ys none = (elim (test x.0) as (λ b. cond b (Some x.1) (lookup test xs) ≡ None → cond b (Some x.1) (lookup test (xs ++ ys)) ≡ lookup test ys) [
-    | true ↦ λ h. absurd (none-some x.1 (sym h))
-    | false ↦ λ h. lookup_on test xs ys h
-  ]) none
+  lookup_on test (x ∷ xs) ys none =
+      (elim (test x.0) as (λ b. cond b (Some x.1) (lookup test xs) ≡ None → cond b (Some x.1) (lookup test (xs ++ ys)) ≡ lookup test ys) [
+        | true ↦ λ h. absurd (none-some x.1 (sym h))
+        | false ↦ λ h. lookup_on test xs ys h
+      ]) none
 
   -- A limit that is kept evicts nothing, and what is not there is not there once entries are evicted.
   pub rest_enough : (limit : ℕ) (es : List (K × Held V)) → total_cost es ≤ limit → rest_within limit es ≡ es

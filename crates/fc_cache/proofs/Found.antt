@@ -1,5 +1,6 @@
 -- Entries and their look-ups: what one finds, and what is found once an entry is taken out or put at the end.
-use Rattle.std.proofs.Common.{◌≡◌, suc, Bool, true, false, cond, List, [], ◌∷◌, ◌++◌, length, Contains, Option, None, Some, option_map, is_some, refl, sym, ap, ◌∙◌, subst, arith, true≢false}
+use Rattle.std.proofs.Common.{◌≡◌, suc, Bool, true, false, cond, List, [], ◌∷◌, ◌++◌, length, Contains, Option, None, Some, option_map, is_some, refl, sym, ap}
+use Rattle.std.proofs.Common.{◌∙◌, subst, arith, true≢false}
 use Rattle.std.proofs.lemmas.Option.{none-some, same_Some}
 use Rattle.std.proofs.lemmas.List.{map-append}
 use Rattle.std.proofs.lemmas.List.Elements.{All-contains, All-from_recursion, recursion_from_All}
@@ -47,10 +48,11 @@ module _ {K V : Type 0} where
 
     pub tagged_remove : (es : List (K × Held V)) → tagged (remove_entry test es) ≡ remove_entry test (tagged es)
     tagged_remove [] = refl
-    tagged_remove (e ∷ es) = elim (test e.0) as (λ b. tagged (cond b es (e ∷ remove_entry test es)) ≡ cond b (tagged es) ((e.0, e) ∷ remove_entry test (tagged es))) [
-      | true ↦ refl
-      | false ↦ ap (λ l. (e.0, e) ∷ l) (tagged_remove es)
-    ]
+    tagged_remove (e ∷ es) = elim (test e.0) as
+        (λ b. tagged (cond b es (e ∷ remove_entry test es)) ≡ cond b (tagged es) ((e.0, e) ∷ remove_entry test (tagged es))) [
+          | true ↦ refl
+          | false ↦ ap (λ l. (e.0, e) ∷ l) (tagged_remove es)
+        ]
 
     pub between : (es : List (K × Held V)) (e : K × Held V) → lookup test (tagged es) ≡ Some e → Between test es e
     between [] e h = absurd (none-some e h)
@@ -116,10 +118,11 @@ module _ {K V : Type 0} where
   -- What is found at a key is the entry's value.
   pub lookup_value : (test : K → Bool) (es : List (K × Held V)) → option_map (λ e. e.1) (lookup test (tagged es)) ≡ lookup test es
   lookup_value test [] = refl
-  lookup_value test (e ∷ es) = elim (test e.0) as (λ b. option_map (λ y. y.1) (cond b (Some e) (lookup test (tagged es))) ≡ cond b (Some e.1) (lookup test es)) [
-    | true ↦ refl
-    | false ↦ lookup_value test es
-  ]
+  lookup_value test (e ∷ es) = elim (test e.0) as
+      (λ b. option_map (λ y. y.1) (cond b (Some e) (lookup test (tagged es))) ≡ cond b (Some e.1) (lookup test es)) [
+        | true ↦ refl
+        | false ↦ lookup_value test es
+      ]
 
 pub none_behind : {X Y : Type 0} (f : X → Y) (o : Option X) → option_map f o ≡ None → o ≡ None
 none_behind f None h = refl
@@ -158,13 +161,15 @@ module _ {K V : Type 0} {eq : K → K → Bool} (laws : IsEquivalence eq) where
   push_tagged : (e : K × Held V) (q : K) (es : List (K × Held V)) → NonePasses (eq e.0) (tagged es)
       → lookup (eq q) (tagged es ++ (e.0, e) ∷ []) ≡ cond (eq e.0 q) (Some e) (lookup (eq q) (tagged es))
   push_tagged e q [] none = ap (λ b. cond b (Some e) None) (laws.symm q e.0)
-  push_tagged e q (f ∷ es) none = (elim (eq q f.0) as (λ b. eq q f.0 ≡ b → cond b (Some f) (lookup (eq q) (tagged es ++ (e.0, e) ∷ [])) ≡ cond (eq e.0 q) (Some e) (cond b (Some f) (lookup (eq q) (tagged es)))) [
-    | true ↦ λ t. (elim (eq e.0 q) as (λ b. eq e.0 q ≡ b → Some f ≡ cond b (Some e) (Some f)) [
-      | true ↦ λ u. absurd (true≢false (sym t ∙ sym (laws.congr e.0 q f.0 u) ∙ none.0))
-      | false ↦ λ u. refl
-    ]) refl
-    | false ↦ λ t. push_tagged e q es none.1
-  ]) refl
+  push_tagged e q (f ∷ es) none =
+      (elim (eq q f.0) as (λ b. eq q f.0 ≡ b
+      → cond b (Some f) (lookup (eq q) (tagged es ++ (e.0, e) ∷ [])) ≡ cond (eq e.0 q) (Some e) (cond b (Some f) (lookup (eq q) (tagged es)))) [
+        | true ↦ λ t. (elim (eq e.0 q) as (λ b. eq e.0 q ≡ b → Some f ≡ cond b (Some e) (Some f)) [
+          | true ↦ λ u. absurd (true≢false (sym t ∙ sym (laws.congr e.0 q f.0 u) ∙ none.0))
+          | false ↦ λ u. refl
+        ]) refl
+        | false ↦ λ t. push_tagged e q es none.1
+      ]) refl
 
   -- What is found once an entry of a new key is put at the end.
   pub lookup_push : (e : K × Held V) (q : K) (es : List (K × Held V)) → lookup (eq e.0) (tagged es) ≡ None
@@ -180,15 +185,18 @@ module _ {K V : Type 0} {eq : K → K → Bool} (laws : IsEquivalence eq) where
   last_is_new e es d = none_before e.0 es (parts eq (keys_of es) (e.0 ∷ []) (subst (IsDistinct eq) (keys_append es (e ∷ [])) d)).between
 
   -- A key that a look-up misses is new.
-  pub distinct_push : (e : K × Held V) (es : List (K × Held V)) → IsDistinct eq (keys_of es) → lookup (eq e.0) (tagged es) ≡ None → IsDistinct eq (keys_of (es ++ e ∷ []))
+  pub distinct_push : (e : K × Held V) (es : List (K × Held V)) → IsDistinct eq (keys_of es) → lookup (eq e.0) (tagged es) ≡ None
+      → IsDistinct eq (keys_of (es ++ e ∷ []))
   distinct_push e es d none =
       subst (IsDistinct eq) (sym (keys_append es (e ∷ [])))
       (IsDistinct-push laws (keys_of es) e.0 d (ap (list_any (eq e.0)) (sym (keys_tagged es)) ∙ sym (is_some-lookup (eq e.0) (tagged es)) ∙ ap is_some none))
 
 -- What is read of a pair that is written.
-pub read_at : {K X Y : Type 0} (eq : K → K → Bool) (read : Option X → Y) (k q : K) (o : Option X) (ps qs : List (K × X)) → value_at eq q qs ≡ cond (eq k q) o (value_at eq q ps)
+pub read_at : {K X Y : Type 0} (eq : K → K → Bool) (read : Option X → Y) (k q : K) (o : Option X) (ps qs : List (K × X))
+    → value_at eq q qs ≡ cond (eq k q) o (value_at eq q ps)
     → read (value_at eq q qs) ≡ cond (eq k q) (read o) (read (value_at eq q ps))
-read_at eq read k q o ps qs h = ap read h ∙ elim (eq k q) as (λ b. read (cond b o (value_at eq q ps)) ≡ cond b (read o) (read (value_at eq q ps))) [ true ↦ refl | false ↦ refl ]
+read_at eq read k q o ps qs h = ap read h
+    ∙ elim (eq k q) as (λ b. read (cond b o (value_at eq q ps)) ≡ cond b (read o) (read (value_at eq q ps))) [ true ↦ refl | false ↦ refl ]
 
 module _ {K X : Type 0} (eq : K → K → Bool) (k : K) (ps qs : List (K × X)) where
   -- One pair more, where a new key was put; one fewer, where a pair was taken.

@@ -39,7 +39,8 @@ module _ {K V A : Type 0} {eq : K → K → Bool} (laws : IsEquivalence eq) (l :
 
   pub held_at : (es : List (K × Held V)) → IsSound eq l es → (q : K) → option_map (λ x. x.held) (value_at eq q l.map.pairs) ≡ lookup (eq q) es
   held_at es s q =
-      (elim (value_at eq q l.map.pairs) as (λ o. option_map (λ x. x.held) o ≡ option_map second (option_map (λ (x : Link K V). (x.key, x.held)) o)) [ None ↦ refl | Some x ↦ refl ])
+      (elim (value_at eq q l.map.pairs) as
+      (λ o. option_map (λ x. x.held) o ≡ option_map second (option_map (λ (x : Link K V). (x.key, x.held)) o)) [ None ↦ refl | Some x ↦ refl ])
       ∙ ap (option_map second) (s.held q) ∙ lookup_value (eq q) es
 
   pub first_taken : (es : List (K × Held V)) → IsSound eq l es → (k : K) → l.first ≡ Some k → (r : Option (K × Held V)) (rest : List (K × Held V))
@@ -58,11 +59,14 @@ module _ {K V A : Type 0} {eq : K → K → Bool} (laws : IsEquivalence eq) (l :
   none_first (e ∷ es) s none = let first = s.chain.0 in cc
 
   -- Links whose map finds the same are as sound.
-  pub same_values : (m : Links K V A) (es : List (K × Held V)) → m.first ≡ l.first → m.last ≡ l.last → ((q : K) → value_at eq q m.map.pairs ≡ value_at eq q l.map.pairs)
+  pub same_values : (m : Links K V A) (es : List (K × Held V)) → m.first ≡ l.first → m.last ≡ l.last
+      → ((q : K) → value_at eq q m.map.pairs ≡ value_at eq q l.map.pairs)
       → IsPermutation l.map.pairs m.map.pairs → IsSound eq l es → IsSound eq m es
   same_values m es first last values moved s =
-      let nexts = λ (q : Option K). elim q as (λ p. next_of eq m p ≡ next_of eq l p) [ None ↦ first | Some k ↦ ap (option_and_then (λ x. x.next)) (values k) ] in
-      let previouses = λ (q : Option K). elim q as (λ p. previous_of eq m p ≡ previous_of eq l p) [ None ↦ last | Some k ↦ ap (option_and_then (λ x. x.previous)) (values k) ] in
+      let nexts = λ (q : Option K). elim q as
+      (λ p. next_of eq m p ≡ next_of eq l p) [ None ↦ first | Some k ↦ ap (option_and_then (λ x. x.next)) (values k) ] in
+      let previouses = λ (q : Option K). elim q as
+      (λ p. previous_of eq m p ≡ previous_of eq l p) [ None ↦ last | Some k ↦ ap (option_and_then (λ x. x.previous)) (values k) ] in
       record {
         chain = chain_alike (next_of eq l) (previous_of eq l) (next_of eq m) (previous_of eq m) nexts previouses None (places_of es) None s.chain;
         distinct = s.distinct;

@@ -1,5 +1,6 @@
 -- Links in a ring: what holds once one is cut out, put at the end, put in and taken out.
-use Rattle.std.proofs.Common.{◌≡◌, suc, ◌+◌, Bool, true, false, cond, List, [], ◌∷◌, ◌++◌, length, Option, None, Some, option_map, is_some, refl, sym, ap, ◌∙◌, subst, arith, length-append}
+use Rattle.std.proofs.Common.{◌≡◌, suc, ◌+◌, Bool, true, false, cond, List, [], ◌∷◌, ◌++◌, length, Option, None, Some, option_map, is_some, refl, sym, ap, ◌∙◌}
+use Rattle.std.proofs.Common.{subst, arith, length-append, true≢false}
 use Rattle.std.proofs.lemmas.Option.{none-some}
 use Rattle.std.specs.Cmp.{IsEquivalence}
 use Rattle.std.specs.Cmp.Lexicographic.{options_equiv}
@@ -12,8 +13,12 @@ use Rattle.fc_cache.specs.declared.links.Link.{Link}
 use Rattle.fc_cache.specs.declared.links.Links.{Links}
 use Rattle.fc_cache.specs.Chains.{IsSet, IsChain}
 use Rattle.fc_cache.specs.Links.{next_of, previous_of, IsIn, IsJoined, entry_in, entries_from, entries_of, tagged, places_of, IsSound, IsWaiting}
+use Rattle.std.proofs.lemmas.List.{append-nil}
+use Rattle.fc_cache.specs.Entries.{used_last}
+use Rattle.fc_cache.proofs.Recent.{used_hit, used_missed}
 use Rattle.fc_cache.proofs.Chains.{Apart, all_map, all_append, all_front, all_back, parts, stays, split, last_in, first_in, turned, cut_out, put_last}
-use Rattle.fc_cache.proofs.Found.{between, places_append, keys_append, distinct_rest, ring_distinct, all_found, lookup_rest, lookup_push, last_is_new, distinct_push, read_at}
+use Rattle.fc_cache.proofs.Found.{between, places_append, keys_append, distinct_rest, ring_distinct, all_found, lookup_rest, lookup_push, last_is_new}
+use Rattle.fc_cache.proofs.Found.{distinct_push, read_at}
 use Rattle.fc_cache.proofs.Written.{lookup_alike}
 
 module _ {K V A : Type 0} {eq : K → K → Bool} (laws : IsEquivalence eq) where
@@ -56,7 +61,8 @@ module _ {K V A : Type 0} {eq : K → K → Bool} (laws : IsEquivalence eq) wher
         let all = subst (AllByRecursion (IsIn eq l)) places (all_in l es (all_held l es s.distinct s.held)) in
         let on = split n p None (places_of b.front) (Some e.0) (places_of b.back) None (subst (λ ps. IsChain n p None ps None) places s.chain) in
         record {
-          previous = last_in n p (IsIn eq l) None (places_of b.front) (Some e.0) on.front (tt, all_front (IsIn eq l) (places_of b.front) (Some e.0 ∷ places_of b.back) all);
+          previous = last_in n p (IsIn eq l) None (places_of b.front) (Some e.0) on.front
+              (tt, all_front (IsIn eq l) (places_of b.front) (Some e.0 ∷ places_of b.back) all);
           next = first_in n p (IsIn eq l) (Some e.0) (places_of b.back) None on.back
               (all_append (IsIn eq l) (places_of b.back) (None ∷ []) (all_back (IsIn eq l) (places_of b.front) (Some e.0 ∷ places_of b.back) all).1 (tt, tt));
         }
@@ -102,17 +108,21 @@ module _ {K V A : Type 0} {eq : K → K → Bool} (laws : IsEquivalence eq) wher
         let same = option_eq eq in
         let places : places_of es ≡ places_of b.front ++ k ∷ places_of b.back = ap places_of b.is ∙ places_append b.front (entry ∷ b.back) in
         let left : places_of rest ≡ places_of b.front ++ places_of b.back = ap places_of b.rest ∙ places_append b.front b.back in
-        let nexts : IsSet same f (g k) (f k) (next_of eq m) = subst (λ p. IsSet same f p (f k) (next_of eq m)) (sym previous_is) (subst (λ n. IsSet same f x.previous n (next_of eq m)) (sym next_is) j.nexts) in
+        let nexts : IsSet same f (g k) (f k) (next_of eq m) = subst (λ p. IsSet same f p (f k) (next_of eq m)) (sym previous_is)
+        (subst (λ n. IsSet same f x.previous n (next_of eq m)) (sym next_is) j.nexts) in
         let previouses : IsSet same g (f k) (g k) (previous_of eq m) =
-        subst (λ p. IsSet same g (f k) p (previous_of eq m)) (sym previous_is) (subst (λ n. IsSet same g n x.previous (previous_of eq m)) (sym next_is) j.previouses) in
+        subst (λ p. IsSet same g (f k) p (previous_of eq m)) (sym previous_is)
+        (subst (λ n. IsSet same g n x.previous (previous_of eq m)) (sym next_is) j.previouses) in
         let long : length es ≡ length b.front + suc (length b.back) = ap length b.is ∙ length-append b.front (entry ∷ b.back) in
         let short : length rest ≡ length b.front + length b.back = ap length b.rest ∙ length-append b.front b.back in
         let pushed : length (rest ++ entry ∷ []) ≡ length rest + 1 = length-append rest (entry ∷ []) in
-        let none : lookup (eq x.key) (tagged rest) ≡ None = lookup_rest laws q x.key es s.distinct ∙ ap (λ t. cond t None (lookup (eq x.key) (tagged es))) b.passes in
+        let none : lookup (eq x.key) (tagged rest) ≡ None = lookup_rest laws q x.key es s.distinct
+        ∙ ap (λ t. cond t None (lookup (eq x.key) (tagged es))) b.passes in
         record {
           chain = subst (λ ps. IsChain (next_of eq m) (previous_of eq m) None ps None) (sym left)
               (cut_out (options_equiv laws) f g (next_of eq m) (previous_of eq m) None (places_of b.front) k (places_of b.back)
-              (subst (λ ps. IsChain f g None ps None) places s.chain) (subst (λ ps. IsDistinct same (None ∷ ps)) places (ring_distinct laws es s.distinct)) nexts previouses);
+              (subst (λ ps. IsChain f g None ps None) places s.chain)
+              (subst (λ ps. IsDistinct same (None ∷ ps)) places (ring_distinct laws es s.distinct)) nexts previouses);
           distinct = distinct_push laws entry rest (distinct_rest (eq q) eq es s.distinct) none;
           held = λ r. j.same.held r ∙ s.held r ∙ sym (found_last r);
           count = j.same.count ∙ s.count ∙ omega arith;
@@ -147,7 +157,8 @@ module _ {K V A : Type 0} {eq : K → K → Bool} (laws : IsEquivalence eq) wher
     pub joined_last : (m n : Links K V A) → IsJoined eq l.last (Some e.0) l m → IsJoined eq (Some e.0) None m n → IsSound eq n (rest ++ e ∷ [])
     joined_last m n j i = record {
       chain = subst (λ ps. IsChain (next_of eq n) (previous_of eq n) None ps None) (sym (places_append rest (e ∷ [])))
-          (put_last (options_equiv laws) (next_of eq l) (previous_of eq l) (next_of eq m) (previous_of eq m) (next_of eq n) (previous_of eq n) None (places_of rest) (Some e.0)
+          (put_last (options_equiv laws) (next_of eq l) (previous_of eq l) (next_of eq m) (previous_of eq m) (next_of eq n) (previous_of eq n) None
+          (places_of rest) (Some e.0)
           w.chain waiting_distinct j.nexts j.previouses i.nexts i.previouses);
       distinct = w.distinct;
       held = λ q. i.same.held q ∙ j.same.held q ∙ w.held q;
@@ -167,7 +178,8 @@ module _ {K V A : Type 0} {eq : K → K → Bool} (laws : IsEquivalence eq) wher
       stays same (next_of eq l) (previous_of eq l) (next_of eq m) (previous_of eq m) (Some e.0) None (Some e.0) None s t None (places_of rest) None apart
       (all_append (λ q. same (Some e.0) q ≡ false) (places_of rest) (None ∷ []) apart.1 (refl, tt)) c
 
-  module _ (l m : Links K V A) (k : K) (o : Option (Link K V)) (values : (q : K) → value_at eq q m.map.pairs ≡ cond (eq k q) o (value_at eq q l.map.pairs)) where
+  module _ (l m : Links K V A) (k : K) (o : Option (Link K V)) (values : (q : K)
+      → value_at eq q m.map.pairs ≡ cond (eq k q) o (value_at eq q l.map.pairs)) where
     next_set : m.first ≡ l.first → option_and_then (λ y. y.next) o ≡ None → IsSet (option_eq eq) (next_of eq l) (Some k) None (next_of eq m)
     next_set first none None = first
     next_set first none (Some q) =
@@ -190,7 +202,8 @@ module _ {K V A : Type 0} {eq : K → K → Bool} (laws : IsEquivalence eq) wher
         let long : length (rest ++ e ∷ []) ≡ length rest + 1 = length-append rest (e ∷ []) in
         let new = last_is_new laws e rest w.distinct in
         record {
-          chain = ring_stays l m rest e w.distinct (next_set first (ap (option_and_then (λ y. y.next)) none)) (previous_set last (ap (option_and_then (λ y. y.previous)) none)) w.chain;
+          chain = ring_stays l m rest e w.distinct (next_set first (ap (option_and_then (λ y. y.next)) none))
+              (previous_set last (ap (option_and_then (λ y. y.previous)) none)) w.chain;
           distinct = p.front;
           held = λ q. entry_set q ∙ ap (λ r. cond (eq k q) (option_map (λ y. (y.key, y.held)) r) (entry_in eq l q)) none
               ∙ ap (cond (eq k q) None) (w.held q ∙ lookup_push laws e q rest new)
@@ -209,9 +222,41 @@ module _ {K V A : Type 0} {eq : K → K → Bool} (laws : IsEquivalence eq) wher
         let long : length (es ++ e ∷ []) ≡ length es + 1 = length-append es (e ∷ []) in
         let distinct = distinct_push laws e es s.distinct new in
         record {
-          chain = ring_stays l m es e distinct (next_set first (ap (option_and_then (λ y. y.next)) some)) (previous_set last (ap (option_and_then (λ y. y.previous)) some)) s.chain;
+          chain = ring_stays l m es e distinct (next_set first (ap (option_and_then (λ y. y.next)) some))
+              (previous_set last (ap (option_and_then (λ y. y.previous)) some)) s.chain;
           distinct = distinct;
           held = λ q. entry_set q ∙ ap (λ r. cond (eq k q) (option_map (λ y. (y.key, y.held)) r) (entry_in eq l q)) some
               ∙ ap (cond (eq k q) (Some e)) (s.held q) ∙ sym (lookup_push laws e q es new);
           count = omega arith;
         }
+
+  -- What is used last already is so once it is used.
+  last_alone : (l : Links K V A) (front : List (K × Held V)) (e : K × Held V) (back : List (K × Held V)) (k : K)
+      → IsChain (next_of eq l) (previous_of eq l) None (places_of front ++ Some e.0 ∷ places_of back) None
+      → IsDistinct (option_eq eq) (places_of front ++ Some e.0 ∷ places_of back) → l.last ≡ Some k → eq e.0 k ≡ true → back ≡ []
+  unfolding IsDistinct
+  last_alone l front e [] k c d last t = refl
+  last_alone l front e (y ∷ ys) k c d last t =
+      let f = next_of eq l in
+      let g = previous_of eq l in
+      let here : Option K = Some e.0 in
+      let on = split f g None (places_of front) here (Some y.0 ∷ places_of ys) None c in
+      let apart = (parts (option_eq eq) (places_of front) (here ∷ Some y.0 ∷ places_of ys) d).back.0 in
+      let off = last_in f g (λ p. option_eq eq here p ≡ false) (Some y.0) (places_of ys) None on.back.2 apart in
+      absurd (true≢false (sym t ∙ ap (option_eq eq here) (sym last) ∙ off))
+
+  module _ (l : Links K V A) (es : List (K × Held V)) (s : IsSound eq l es) (q k : K) (last : l.last ≡ Some k) (same : eq k q ≡ true) where
+    stays_last : (o : Option (K × Held V)) → lookup (eq q) (tagged es) ≡ o → used_last eq q es ≡ es
+    stays_last None none = sym (used_missed eq q es none)
+    stays_last (Some e) found =
+        let b = between (eq q) es e found in
+        let places : places_of es ≡ places_of b.front ++ Some e.0 ∷ places_of b.back = ap places_of b.is ∙ places_append b.front (e ∷ b.back) in
+        let ring = (parts (option_eq eq) (None ∷ []) (places_of es) (ring_distinct laws es s.distinct)).back in
+        let at : eq e.0 k ≡ true = sym (laws.congr q e.0 k b.passes) ∙ laws.symm q k ∙ same in
+        let alone = last_alone l b.front e b.back k (subst (λ ps. IsChain (next_of eq l) (previous_of eq l) None ps None) places s.chain)
+        (subst (IsDistinct (option_eq eq)) places ring) last at in
+        sym (used_hit eq q es e found) ∙ ap (λ r. r ++ e ∷ []) (b.rest ∙ ap (λ r. b.front ++ r) alone ∙ append-nil b.front)
+        ∙ sym (b.is ∙ ap (λ r. b.front ++ e ∷ r) alone)
+
+    pub used_already : used_last eq q es ≡ es
+    used_already = stays_last (lookup (eq q) (tagged es)) refl

@@ -18,12 +18,14 @@ module _ {K X : Type 0} {eq : K → K → Bool} (laws : IsEquivalence eq) where
   -- What reads the same of the item that is written reads the same at each key.
   pub reads_same : {Y : Type 0} (read : Option X → Y) (k : K) (x w : X) (ps qs : List (K × X)) → lookup (eq k) ps ≡ Some x → read (Some w) ≡ read (Some x)
       → ((q : K) → lookup (eq q) qs ≡ cond (eq k q) (Some w) (lookup (eq q) ps)) → (q : K) → read (lookup (eq q) qs) ≡ read (lookup (eq q) ps)
-  reads_same read k x w ps qs found same values q = ap read (values q) ∙ (elim (eq k q) as (λ b. eq k q ≡ b → read (cond b (Some w) (lookup (eq q) ps)) ≡ read (lookup (eq q) ps)) [
-    | true ↦ λ t. same ∙ ap read (sym found ∙ lookup_alike k q t ps)
-    | false ↦ λ t. refl
-  ]) refl
+  reads_same read k x w ps qs found same values q = ap read (values q)
+      ∙ (elim (eq k q) as (λ b. eq k q ≡ b → read (cond b (Some w) (lookup (eq q) ps)) ≡ read (lookup (eq q) ps)) [
+        | true ↦ λ t. same ∙ ap read (sym found ∙ lookup_alike k q t ps)
+        | false ↦ λ t. refl
+      ]) refl
 
-module _ {K V A : Type 0} {eq : K → K → Bool} (laws : IsEquivalence eq) (l : Links K V A) (k : K) (x w : Link K V) (found : value_at eq k l.map.pairs ≡ Some x) where
+module _ {K V A : Type 0} {eq : K → K → Bool} (laws : IsEquivalence eq) (l : Links K V A) (k : K) (x w : Link K V)
+    (found : value_at eq k l.map.pairs ≡ Some x) where
   -- The links with this one at the key.
   abbrev written : Links K V A
   written = record l { map = record { pairs = set_value (eq k) l.map.pairs w; spare = l.map.spare } }

@@ -1,5 +1,5 @@
 -- The entries of a cache, each a key with its value and its cost, from the least to the most lately used.
-use Rattle.std.specs.Prelude.{◌≡◌, ℕ, ◌<◌, ◌≤◌, Bool, cond, List, [], ◌∷◌, ◌++◌, leb}
+use Rattle.std.specs.Prelude.{◌≡◌, ℕ, ◌-◌, ◌<◌, ◌≤◌, Bool, cond, List, [], ◌∷◌, ◌++◌, leb}
 use Rattle.std.specs.List.{IsDistinct, sum_by}
 use Rattle.std.specs.Option.{option_to_list}
 use Rattle.std.specs.Map.{keys_of, values_of, lookup_entry, remove_entry}
@@ -13,11 +13,6 @@ pub record Cached (K V : Type 0) : Type 0 where
   pub entries : List (K × Held V)
   pub budget : ℕ
 
--- Entries in the order of their last use, and how many more there is room for.
-pub record Recent (K V : Type 0) : Type 0 where
-  pub entries : List (K × Held V)
-  pub spare : ℕ
-
 module _ {K V : Type 0} where
   -- The sum of the costs.
   abbrev pub total_cost : List (K × Held V) → ℕ
@@ -28,10 +23,19 @@ module _ {K V : Type 0} where
   rest_within limit [] = []
   rest_within limit (e ∷ es) = cond (leb (total_cost (e ∷ es)) limit) (e ∷ es) (rest_within limit es)
 
+  -- The entries are this pair, at some cost, and the rest.
+  abbrev pub IsFirstOf : K × V → List (K × Held V) → List (K × Held V) → Type 0
+  IsFirstOf p es rest = (cost : ℕ) × (es ≡ (p.0, record { value = p.1; cost = cost }) ∷ rest)
+
   module _ (eq : K → K → Bool) where
     -- The entry at a key, if there is one, is the most lately used.
     abbrev pub used_last : K → List (K × Held V) → List (K × Held V)
     used_last k es = remove_entry (eq k) es ++ option_to_list (lookup_entry (eq k) es)
+
+    -- The cache with an entry put in: of the others the longest rest that fits beside it, and then the entry, which is used last.
+    abbrev pub with_entry : Cached K V → K → Held V → Cached K V
+    with_entry c k h =
+        record { entries = rest_within (c.budget - h.cost) (remove_entry (eq k) c.entries) ++ (k, h) ∷ []; budget = c.budget }
 
     -- What holds of each cache: no two keys are equal, and the costs are within the budget.
     pub record IsCached (c : Cached K V) : Type 0 where

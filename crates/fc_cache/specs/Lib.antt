@@ -2,3 +2,4 @@ pub mod Chains
 pub mod Entries
 pub mod Lends
 pub mod Links
+pub mod Recent

@@ -1,5 +1,5 @@
 //! The cache: entries in the order of their last use, whose costs keep within a budget.
-ghost use Rattle.std.specs.Prelude.{◌≡◌, ◌↔◌, ◌-◌, ◌<◌, ◌≤◌, ℕ, [], ◌∷◌, ◌++◌, length, None, MatchOption, IsTrue, OnOk, IfErr, option_map};
+ghost use Rattle.std.specs.Prelude.{◌≡◌, ◌↔◌, ◌≤◌, [], ◌∷◌, length, None, IfSome, IsNone, IsTrue, OnOk, OnErr, IfErr, option_map};
 ghost use Rattle.std.specs.Borrow.{sem};
 ghost use Rattle.std.specs.List.{IsDistinct};
 ghost use Rattle.std.specs.Map.{keys_of, lookup, remove_entry};
@@ -102,8 +102,7 @@ impl<K: Eq + Hash + Copy, V, A: Handle> Cache<K, V, A> {
 }
 
 impl<K: Eq + Hash + Copy + Drop, V: Drop, A: Handle> Cache<K, V, A> {
-    ghost use Rattle.fc_cache.specs.declared.held.Held.{Held};
-    ghost use Rattle.fc_cache.specs.Entries.{IsRefusal, rest_within};
+    ghost use Rattle.fc_cache.specs.Entries.{IsRefusal, IsFirstOf, with_entry};
 
     /// Puts an entry in as the most lately used. An entry at an equal key is dropped, and of the others, from the least lately used on, as
     /// many as it takes for the costs of all to be within the budget.
@@ -112,9 +111,11 @@ impl<K: Eq + Hash + Copy + Drop, V: Drop, A: Handle> Cache<K, V, A> {
     /// `OverBudget` exactly where the cost is above the whole budget, and `Refused` where room for the entry was refused. All of it is taken
     /// before the first change: the cache is as it was, and key and value come back.
     pub fn try_put(&mut self, key: K, value: V, cost: usize) -> Result<(), (PutError, K, V)>
-        ensures put { OnOk result (self.new ≡ record { entries = rest_within (self.old.budget - cost) (remove_entry (K.eq key) self.old.entries) ++ (key, record { value = value; cost = cost }) ∷ []; budget = self.old.budget }) }
+        ensures put { OnOk result (self.new ≡ with_entry K.eq self.old key (record { value = value; cost = cost })) }
         ensures fits { OnOk result (cost ≤ self.old.budget) }
-        ensures error { IfErr result (λ e. IsRefusal self.old.budget cost (length self.old.entries) e.0 × (e.1 ≡ key) × (e.2 ≡ value) × (self.new ≡ self.old)) }
+        ensures error { IfErr result (λ e. IsRefusal self.old.budget cost (length self.old.entries) e.0) }
+        ensures back { IfErr result (λ e. (e.1 ≡ key) × (e.2 ≡ value)) }
+        ensures unchanged { OnErr result (self.new ≡ self.old) }
     {
         if self.budget < cost {
             return Err((PutError::OverBudget, key, value));
@@ -143,8 +144,8 @@ impl<K: Eq + Hash + Copy + Drop, V: Drop, A: Handle> Cache<K, V, A> {
 
     /// Takes out the entry that was used least lately. `None` where there is none. It takes no memory.
     pub fn pop_oldest(&mut self) -> Option<(K, V)>
-        ensures oldest { MatchOption result (self.old.entries ≡ []) (λ p. (cost : ℕ) × (self.old.entries ≡ (p.0, record { value = p.1; cost = cost }) ∷ self.new.entries)) }
-        ensures none { self.old.entries ≡ [] → self.new ≡ self.old }
+        ensures oldest { IfSome result (λ p. IsFirstOf p self.old.entries self.new.entries) }
+        ensures none { IsNone result → (self.old.entries ≡ []) × (self.new ≡ self.old) }
         ensures budget { self.new.budget ≡ self.old.budget }
     {
         let (key, held) = self.recency.take_first()?;

@@ -1,5 +1,5 @@
 //! Entries in the order of their last use.
-ghost use Rattle.std.specs.Prelude.{◌≡◌, ◌<◌, ◌≤◌, [], ◌∷◌, ◌++◌, length, None, MatchOption, OnOk, IfErr};
+ghost use Rattle.std.specs.Prelude.{◌≡◌, ◌<◌, ◌≤◌, [], ◌∷◌, ◌++◌, length, None, true, MatchOption, OnOk, IfErr};
 ghost use Rattle.std.specs.List.{IsDistinct};
 ghost use Rattle.std.specs.Map.{keys_of, lookup, lookup_entry, remove_entry};
 ghost use Rattle.std.specs.Option.{option_copied};
@@ -19,7 +19,7 @@ pub(crate) struct Recency<K: Eq + Hash, V, A: Handle> {
 }
 
 impl<K: Eq + Hash, V, A: Handle> Model for Recency<K, V, A> {
-    ghost use Rattle.fc_cache.specs.Entries.{Recent};
+    ghost use Rattle.fc_cache.specs.Recent.{Recent};
 
     ghost Value = { Recent K V };
 
@@ -73,6 +73,26 @@ impl<K: Eq + Hash + Copy, V, A: Handle> Recency<K, V, A> {
 
     /// Has the entry at a key be the most lately used.
     pub(crate) fn touch(&mut self, key: &K)
+        ensures entries { self.new.entries ≡ used_last K.eq key.now self.old.entries }
+        ensures value { lookup (K.eq key.now) self.new.entries ≡ lookup (K.eq key.now) self.old.entries }
+    {
+        if !self.is_last(key) {
+            self.move_last(key);
+        }
+    }
+
+    // Whether the entry at a key is the most lately used already.
+    fn is_last(&self, key: &K) -> bool
+        ensures { result ≡ true → used_last K.eq key.now self.now.entries ≡ self.now.entries }
+    {
+        match self.links.last {
+            Some(last) => last == *key,
+            None => false,
+        }
+    }
+
+    // `touch` of an entry wherever it stands.
+    fn move_last(&mut self, key: &K)
         ensures entries { self.new.entries ≡ used_last K.eq key.now self.old.entries }
         ensures value { lookup (K.eq key.now) self.new.entries ≡ lookup (K.eq key.now) self.old.entries }
     {

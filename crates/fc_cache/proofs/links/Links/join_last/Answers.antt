@@ -14,4 +14,5 @@ join-requires-2-clause-previous g c =
     ap is_some (c.join.ensures.same.held c.args.key) ∙ waiting_is_in g.met.K.Eq.laws c.args.self.now r.0 (c.args.key, r.1) r.2
 
 pub returns-clause-sound : goal.returns-clause-sound
-returns-clause-sound g c rest h w = joined_last g.met.K.Eq.laws c.args.self.now rest (c.args.key, h) w c.join.new.self c.join-2.new.self c.join.ensures c.join-2.ensures
+returns-clause-sound g c rest h w = joined_last g.met.K.Eq.laws c.args.self.now rest
+    (c.args.key, h) w c.join.new.self c.join-2.new.self c.join.ensures c.join-2.ensures

@@ -17,5 +17,6 @@ returns-clause-taken g c rest h w =
     let x = c.in_ok-link.link in
     let taken = c.in_ok-link.ensures.taken in (
       waiting_held laws l rest (k, h) w x (taken_value laws k x l.map.pairs c.remove.new.self.pairs c.len-known.ensures.map taken),
-      taken_out laws l _ k None c.in_ok-link.ensures.values rest h refl w refl refl (taken_count g.K.PartialEq.eq k l.map.pairs c.remove.new.self.pairs x taken),
+      taken_out laws l _ k None c.in_ok-link.ensures.values rest h refl w refl refl
+          (taken_count g.K.PartialEq.eq k l.map.pairs c.remove.new.self.pairs x taken),
     )

@@ -9,7 +9,8 @@ returns-in_err-link g c =
     let l = c.self.inside.links in
     let eq = g.K.PartialEq.eq in
     let none : value_at eq c.args.key.now l.map.pairs ≡ None = search rules in
-    rw (c.from_residual.ensures, ← c.self.view_is) (ap (option_map (λ x. x.held)) (sym none) ∙ held_at g.met.K.Eq.laws l (entries_of eq l) c.self.invariant c.args.key.now)
+    rw (c.from_residual.ensures, ← c.self.view_is) (ap (option_map (λ x. x.held)) (sym none)
+    ∙ held_at g.met.K.Eq.laws l (entries_of eq l) c.self.invariant c.args.key.now)
 
 pub returns : goal.returns
 returns g c =

@@ -39,7 +39,8 @@ returns-in_err-stored-clause-gone g c =
     let cut = c.in_err-stored.ensures.cut in
     let k = c.args.key.now in
     let es = entries_of eq c.self.inside.links in
-    ap (λ l. lookup (eq k) (entries_of eq l)) cut.1 ∙ ap (lookup (eq k)) (sym (remove_missed (eq k) es cut.0)) ∙ gone g.met.K.Eq.laws k es c.self.invariant.distinct
+    ap (λ l. lookup (eq k) (entries_of eq l)) cut.1 ∙ ap (lookup (eq k)) (sym (remove_missed (eq k) es cut.0))
+    ∙ gone g.met.K.Eq.laws k es c.self.invariant.distinct
 
 pub returns-clause-gone : goal.returns-clause-gone
 returns-clause-gone g c =

@@ -4,7 +4,7 @@ use Rattle.fc_cache.specs.Links.{entries_of}
 use Rattle.fc_cache.proofs.Recent.{used_hit, used_missed}
 use Rattle.fc_cache.proofs.Costs.{value_used}
 use Rattle.fc_cache.proofs.Rings.{closed, entries_are}
-use Rattle.fc_cache.proofs.recency.Recency.touch.Goals as goal
+use Rattle.fc_cache.proofs.recency.Recency.move_last.Goals as goal
 
 pub invariant_of-self : goal.invariant_of-self
 invariant_of-self g c = let cut = c.in-Some.ensures.cut in closed g.met.K.Eq.laws c.join_last.new.self _ (c.join_last.ensures.sound _ cut.0 cut.2)
@@ -33,4 +33,5 @@ returns-in-Some-clause-value g c =
     ∙ used_hit eq k es (c.in-Some.stored, cut.0) cut.1) ∙ value_used laws k es c.self.invariant.distinct)
 
 pub returns-in-None-clause-value : goal.returns-in-None-clause-value
-returns-in-None-clause-value g c = let eq = g.K.PartialEq.eq in rw (← c.self.view_is) (ap (λ l. lookup (eq c.args.key.now) (entries_of eq l)) c.in-None.ensures.cut.1)
+returns-in-None-clause-value g c = let eq = g.K.PartialEq.eq in rw (← c.self.view_is)
+    (ap (λ l. lookup (eq c.args.key.now) (entries_of eq l)) c.in-None.ensures.cut.1)
