@@ -79,7 +79,9 @@ impl<K: Eq + Hash + Copy, V, A: Handle> Links<K, V, A> {
         ensures cut { IsCut K.eq key.now result self.old self.new }
         ensures spare { self.new.map.spare ≡ self.old.map.spare }
     {
-        let link = self.map.get(key)?;
+        let Some(link) = self.map.get(key) else {
+            return None;
+        };
         let stored = link.key;
         let previous = link.previous;
         let next = link.next;

@@ -27,11 +27,19 @@ fn take(row: &mut Row, key: u64) -> Option<(u64, u64, usize)> {
     Some(row.remove(place))
 }
 
-fn put(row: &mut Row, key: u64, value: u64, cost: usize, budget: usize) -> Result<(), AllocError> {
-    let _old = take(row, key);
-    while !row.is_empty() && budget < cost_of(row).wrapping_add(cost) {
+// Takes entries out, from the least lately used on, until a cost fits beside the others.
+fn make_room(row: &mut Row, cost: usize, budget: usize) {
+    for _ in 0..row.len() {
+        if row.is_empty() || cost_of(row).wrapping_add(cost) <= budget {
+            return;
+        }
         let _oldest = row.remove(0);
     }
+}
+
+fn put(row: &mut Row, key: u64, value: u64, cost: usize, budget: usize) -> Result<(), AllocError> {
+    let _old = take(row, key);
+    make_room(row, cost, budget);
     row.push((key, value, cost))?;
     Ok(())
 }
