@@ -23,9 +23,9 @@ module _ {K V : Type 0} where
   rest_within limit [] = []
   rest_within limit (e ∷ es) = cond (leb (total_cost (e ∷ es)) limit) (e ∷ es) (rest_within limit es)
 
-  -- The entries are this pair, at some cost, and the rest.
-  abbrev pub IsFirstOf : K × V → List (K × Held V) → List (K × Held V) → Type 0
-  IsFirstOf p es rest = (cost : ℕ) × (es ≡ (p.0, record { value = p.1; cost = cost }) ∷ rest)
+  -- The pair was used least lately of the entries, at some cost, and the rest are the others.
+  abbrev pub IsOldest : K × V → List (K × Held V) → List (K × Held V) → Type 0
+  IsOldest p es rest = (cost : ℕ) × (es ≡ (p.0, record { value = p.1; cost = cost }) ∷ rest)
 
   module _ (eq : K → K → Bool) where
     -- The entry at a key, if there is one, is the most lately used.

@@ -102,7 +102,7 @@ impl<K: Eq + Hash + Copy, V, A: Handle> Cache<K, V, A> {
 }
 
 impl<K: Eq + Hash + Copy + Drop, V: Drop, A: Handle> Cache<K, V, A> {
-    ghost use Rattle.fc_cache.specs.Entries.{IsRefusal, IsFirstOf, with_entry};
+    ghost use Rattle.fc_cache.specs.Entries.{IsRefusal, IsOldest, with_entry};
 
     /// Puts an entry in as the most lately used. An entry at an equal key is dropped, and of the others, from the least lately used on, as
     /// many as it takes for the costs of all to be within the budget.
@@ -144,7 +144,7 @@ impl<K: Eq + Hash + Copy + Drop, V: Drop, A: Handle> Cache<K, V, A> {
 
     /// Takes out the entry that was used least lately. `None` where there is none. It takes no memory.
     pub fn pop_oldest(&mut self) -> Option<(K, V)>
-        ensures oldest { IfSome result (λ p. IsFirstOf p self.old.entries self.new.entries) }
+        ensures oldest { IfSome result (λ p. IsOldest p self.old.entries self.new.entries) }
         ensures none { IsNone result → (self.old.entries ≡ []) × (self.new ≡ self.old) }
         ensures budget { self.new.budget ≡ self.old.budget }
     {
