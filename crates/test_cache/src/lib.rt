@@ -1,6 +1,7 @@
 //! Caches beside a plain list in the order of use, and with requests for memory refused.
 #![tactic(auto)]
 
+pub mod callers;
 #[cfg(test)]
 mod calls;
 #[cfg(test)]
