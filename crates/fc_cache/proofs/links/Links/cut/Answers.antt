@@ -13,7 +13,7 @@ join-requires-clause-previous g c =
     let laws = g.met.K.Eq.laws in
     let q = c.args.key.now in
     subst (IsIn eq l) (previous_is laws l l es c.requires q x found)
-        (beside laws l es c.requires q (x.key, x.held) (entry_found laws l l es c.requires q x found)).previous
+    (beside laws l es c.requires q (x.key, x.held) (entry_found laws l l es c.requires q x found)).previous
 
 pub join-requires-clause-next : goal.join-requires-clause-next
 join-requires-clause-next g c =
@@ -25,7 +25,7 @@ join-requires-clause-next g c =
     let laws = g.met.K.Eq.laws in
     let q = c.args.key.now in
     subst (IsIn eq l) (next_is laws l l es c.requires q x found)
-        (beside laws l es c.requires q (x.key, x.held) (entry_found laws l l es c.requires q x found)).next
+    (beside laws l es c.requires q (x.key, x.held) (entry_found laws l l es c.requires q x found)).next
 
 pub returns-clause-cut : goal.returns-clause-cut
 returns-clause-cut g c =

@@ -1,4 +1,4 @@
-use Rattle.std.proofs.Common.{◌≡◌, Some, true, sym, ◌∙◌, rules}
+use Rattle.std.proofs.Common.{◌≡◌, Some, sym, ◌∙◌, rules}
 use Rattle.fc_cache.specs.Links.{entries_of}
 use Rattle.fc_cache.proofs.Rings.{used_already}
 use Rattle.fc_cache.proofs.recency.Recency.is_last.Goals as goal
