@@ -1,0 +1,6 @@
+mod Chains
+mod Costs
+mod Found
+mod Recent
+mod Rings
+mod Written

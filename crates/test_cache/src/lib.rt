@@ -1,0 +1,10 @@
+//! Caches beside a plain list in the order of use, and with requests for memory refused.
+#![tactic(auto)]
+
+pub mod callers;
+#[cfg(test)]
+mod calls;
+#[cfg(test)]
+mod order;
+#[cfg(test)]
+mod refusals;
