@@ -1,10 +1,19 @@
 //! The queue.
-use crate::slot::Slot;
+ghost use Rattle.std.specs.Prelude.{◌≡◌, ℕ, ◌+◌, ◌<◌, ◌⊎◌, ◌↔◌, IsTrue, IfSome, IfNone, OnSome, IfOk, IfErr, OnOk, OnErr, IsErr, IsSome, Some, None, count_by, is_some, length, map, slice_index_or, slice_set, option_copied};
+ghost use Rattle.std.specs.Option.{option_map};
+ghost use Rattle.fc_base.specs.declared.try_reserve_error.TryReserveError.{TryReserveError as Error};
+ghost use Rattle.fc_timers.specs.Timers.{AreGivenOut, HasNone, IsChanged, IsEarliest, IsPopped, NoneDue, armed, newly, timer_count};
+ghost use Rattle.fc_timers.specs.Tournament.{IsFirst};
+ghost use Rattle.fc_timers.specs.declared.timer.Armed.{Armed as Held};
+ghost use Rattle.fc_timers.specs.declared.timer.Timer.{Timer as Key};
+
+use crate::slot::{First, Slot};
 use crate::timer::{Armed, Timer};
 use crate::tournament::{change, retime};
 use fc_base::{Handle, TryReserveError};
 use fc_vec::FallibleVec;
 use std::alloc::Global;
+use std::marker::Model;
 
 /// Timers with their times and values, which come out in the order of their times, and those of equal times in the order in which they were
 /// inserted. A call takes a number of steps that grows with the logarithm of the most timers that the queue held at once. Only `try_insert`
@@ -19,9 +28,24 @@ pub struct TimerQueue<T: Ord, V, A: Handle = Global> {
     vacant: usize,
 }
 
+impl<T: Ord, V, A: Handle> Model for TimerQueue<T, V, A> {
+    ghost use Rattle.fc_timers.specs.Timers.{Queue};
+    ghost use Rattle.fc_timers.specs.Tournament.{helds, IsSound};
+
+    ghost Value = { Queue T V };
+
+    ghost view = { λ q. record { slots = helds q.slots.items; next_number = q.next_number } };
+
+    ghost invariant = { λ q. IsSound T.cmp q.slots.items q.len q.next_number };
+}
+
 impl<T: Ord, V, A: Handle> TimerQueue<T, V, A> {
     /// A queue of no timer, which takes no memory. Later requests go to `alloc`.
-    pub fn new(alloc: A) -> TimerQueue<T, V, A> {
+    pub fn new(alloc: A) -> TimerQueue<T, V, A>
+        ensures none { HasNone result }
+        ensures count { timer_count result ≡ 0 }
+        ensures number { result.next_number ≡ 0 }
+    {
         TimerQueue {
             slots: Vec::new(alloc),
             len: 0,
@@ -31,17 +55,25 @@ impl<T: Ord, V, A: Handle> TimerQueue<T, V, A> {
     }
 
     /// The number of timers.
-    pub fn len(&self) -> usize {
+    pub fn len(&self) -> usize
+        ensures value { result ≡ timer_count self.now }
+        ensures given_out { AreGivenOut self.now }
+    {
         self.len
     }
 
     /// Whether there is no timer.
-    pub fn is_empty(&self) -> bool {
+    pub fn is_empty(&self) -> bool
+        ensures { IsTrue result ↔ (timer_count self.now ≡ 0) }
+    {
         self.len == 0
     }
 
-    /// The timer's time and value. `None` where it is no more in the queue.
-    pub fn get(&self, timer: Timer) -> Option<&Armed<T, V>> {
+    /// The timer's time, turn and value. `None` where it is not in the queue: it came out, or was cancelled.
+    pub fn get(&self, timer: Timer) -> Option<&Armed<T, V>>
+        ensures value { option_copied result ≡ armed self.now timer }
+        ensures given_out { AreGivenOut self.now }
+    {
         let armed = self.slots.get(timer.slot)?.held.as_ref()?;
         if armed.number == timer.number {
             Some(armed)
@@ -50,18 +82,39 @@ impl<T: Ord, V, A: Handle> TimerQueue<T, V, A> {
         }
     }
 
-    /// The time of the timer that comes out next. `None` where there is no timer.
-    pub fn next_deadline(&self) -> Option<&T> {
-        match &self.slots.first()?.first {
-            Some(first) => Some(&first.at),
-            None => None,
-        }
+    /// The time of the timer that comes out next: none is due before it. `None` where there is no timer.
+    pub fn next_deadline(&self) -> Option<&T>
+        ensures none { IfNone result (HasNone self.now × (timer_count self.now ≡ 0)) }
+        ensures earliest { IfSome result (λ at. (timer : Key) × (a : Held T V) × (at.now ≡ a.at) × IsEarliest T.cmp self.now timer a) }
+    {
+        Some(&self.first()?.at)
+    }
+
+    // The timer that comes out next, as the slot at the top names it.
+    fn first(&self) -> Option<&First<T>>
+        ensures none { IfNone result (HasNone self.now × (timer_count self.now ≡ 0)) }
+        ensures earliest { IfSome result (λ first. IsFirst T.cmp self.now first.now) }
+    {
+        self.slots.first()?.first.as_ref()
     }
 }
 
 impl<T: Ord + Copy + Drop, V: Drop, A: Handle> TimerQueue<T, V, A> {
-    /// Puts a timer in.
-    pub fn try_insert(&mut self, at: T, value: V) -> Result<Timer, (T, V, TryReserveError)> {
+    /// Puts a timer in, behind those of its time, and answers what it is found by. It takes memory only where the queue holds as many timers as
+    /// it ever held.
+    ///
+    /// # Errors
+    /// `AllocError` where a request for memory was refused; `CapacityOverflow` where the queue has no more room to ask for, or gave out
+    /// 2^64 - 1 turns. The queue is then as it was, and time and value come back.
+    pub fn try_insert(&mut self, at: T, value: V) -> Result<Timer, (T, V, TryReserveError)>
+        ensures inserted { IfOk result (λ timer. IsChanged self.old self.new timer (Some (newly self.old at value))) }
+        ensures fresh { IfOk result (λ timer. armed self.old timer ≡ None) }
+        ensures count { OnOk result (timer_count self.new ≡ timer_count self.old + 1) }
+        ensures number { OnOk result (self.new.next_number ≡ self.old.next_number + 1) }
+        ensures unchanged { OnErr result (self.new ≡ self.old) }
+        ensures back { IfErr result (λ e. (e.0 ≡ at) × (e.1 ≡ value)) }
+        ensures used_up { self.old.next_number ≡ u64.MAX → IfErr result (λ e. e.2 ≡ Error.CapacityOverflow) }
+    {
         if self.next_number == u64::MAX {
             return Err((at, value, TryReserveError::CapacityOverflow));
         }
@@ -71,8 +124,14 @@ impl<T: Ord + Copy + Drop, V: Drop, A: Handle> TimerQueue<T, V, A> {
         }
     }
 
-    // A slot where no timer stands.
-    fn vacant_slot(&mut self) -> Result<usize, TryReserveError> {
+    // A slot where no timer stands, which is new where the list of those has none.
+    fn vacant_slot(&mut self) -> Result<usize, TryReserveError>
+        ensures slots { (k : ℕ) → slice_index_or self.new.slots k None ≡ slice_index_or self.old.slots k None }
+        ensures count { timer_count self.new ≡ timer_count self.old }
+        ensures number { self.new.next_number ≡ self.old.next_number }
+        ensures within { IfOk result (λ slot. (slot < length self.new.slots) × (slice_index_or self.new.slots slot None ≡ None)) }
+        ensures unchanged { OnErr result (self.new ≡ self.old) }
+    {
         if let Some(slot) = self.slots.get(self.vacant) {
             if slot.held.is_none() {
                 return Ok(self.vacant);
@@ -88,7 +147,16 @@ impl<T: Ord + Copy + Drop, V: Drop, A: Handle> TimerQueue<T, V, A> {
         Ok(slot)
     }
 
-    fn fill(&mut self, slot: usize, at: T, value: V) -> Timer {
+    // Puts a timer into a slot where none stands.
+    fn fill(&mut self, slot: usize, at: T, value: V) -> Timer
+        requires number { self.old.next_number < u64.MAX }
+        requires within { slot < length self.old.slots }
+        requires vacant { slice_index_or self.old.slots slot None ≡ None }
+        ensures slots { self.new.slots ≡ slice_set self.old.slots slot (Some (newly self.old at value)) }
+        ensures number { self.new.next_number ≡ self.old.next_number + 1 }
+        ensures timer { (result.slot ≡ slot) × (result.number ≡ self.old.next_number) }
+        ensures count { timer_count self.new ≡ timer_count self.old + 1 }
+    {
         let number = self.next_number;
         self.vacant = self.slots[slot].next_vacant;
         let armed = Armed {
@@ -103,8 +171,14 @@ impl<T: Ord + Copy + Drop, V: Drop, A: Handle> TimerQueue<T, V, A> {
         Timer { slot, number }
     }
 
-    /// Takes a timer out.
-    pub fn cancel(&mut self, timer: Timer) -> Option<(T, V)> {
+    /// Takes a timer out, and answers its time and value. `None` where it is not in the queue, which then stays as it is.
+    pub fn cancel(&mut self, timer: Timer) -> Option<(T, V)>
+        ensures answer { result ≡ option_map (λ a. (a.at, a.value)) (armed self.old timer) }
+        ensures changed { IsChanged self.old self.new timer None }
+        ensures unchanged { IfNone result (self.new ≡ self.old) }
+        ensures count { OnSome result (timer_count self.new + 1 ≡ timer_count self.old) }
+        ensures number { self.new.next_number ≡ self.old.next_number }
+    {
         if self.get(timer).is_some() {
             self.take(timer.slot)
         } else {
@@ -113,7 +187,13 @@ impl<T: Ord + Copy + Drop, V: Drop, A: Handle> TimerQueue<T, V, A> {
     }
 
     // Takes the timer of a slot out.
-    fn take(&mut self, slot: usize) -> Option<(T, V)> {
+    fn take(&mut self, slot: usize) -> Option<(T, V)>
+        requires { IsSome (slice_index_or self.old.slots slot None) }
+        ensures answer { result ≡ option_map (λ a. (a.at, a.value)) (slice_index_or self.old.slots slot None) }
+        ensures slots { self.new.slots ≡ slice_set self.old.slots slot None }
+        ensures number { self.new.next_number ≡ self.old.next_number }
+        ensures count { timer_count self.new + 1 ≡ timer_count self.old }
+    {
         let armed = change(self.slots.as_mut_slice(), slot, None)?;
         self.slots[slot].next_vacant = self.vacant;
         self.vacant = slot;
@@ -121,8 +201,16 @@ impl<T: Ord + Copy + Drop, V: Drop, A: Handle> TimerQueue<T, V, A> {
         Some((armed.at, armed.value))
     }
 
-    /// Gives a timer another time.
-    pub fn reschedule(&mut self, timer: Timer, at: T) -> Option<T> {
+    /// Gives a timer another time, behind those of that time, as if it were inserted anew, and answers the time that it had. It takes no memory.
+    /// `None` where the timer is not in the queue, or 2^64 - 1 turns were given out; the queue then stays as it is.
+    pub fn reschedule(&mut self, timer: Timer, at: T) -> Option<T>
+        ensures answer { IfSome result (λ was. option_map (λ a. a.at) (armed self.old timer) ≡ Some was) }
+        ensures moved { OnSome result (IsChanged self.old self.new timer (option_map (λ a. record a { at = at; turn = self.old.next_number }) (armed self.old timer))) }
+        ensures number { OnSome result (self.new.next_number ≡ self.old.next_number + 1) }
+        ensures none { IfNone result ((armed self.old timer ≡ None) ⊎ (self.old.next_number ≡ u64.MAX)) }
+        ensures unchanged { IfNone result (self.new ≡ self.old) }
+        ensures count { timer_count self.new ≡ timer_count self.old }
+    {
         let was = self.get(timer)?.at;
         if self.next_number == u64::MAX {
             return None;
@@ -132,9 +220,16 @@ impl<T: Ord + Copy + Drop, V: Drop, A: Handle> TimerQueue<T, V, A> {
         Some(was)
     }
 
-    /// Takes the first timer out, where it is due.
-    pub fn pop_due(&mut self, now: &T) -> Option<(T, V)> {
-        let first = self.slots.first()?.first?;
+    /// Takes the first timer out, where it is due at this time, and answers its time and value. `None` where no timer is due, and the queue stays as
+    /// it is. Called in a loop until then, it takes all that are due, in order.
+    pub fn pop_due(&mut self, now: &T) -> Option<(T, V)>
+        ensures popped { IfSome result (λ pair. IsPopped T.cmp self.old self.new now.now pair) }
+        ensures none { IfNone result (NoneDue T.cmp self.old now.now) }
+        ensures unchanged { IfNone result (self.new ≡ self.old) }
+        ensures count { OnSome result (timer_count self.new + 1 ≡ timer_count self.old) }
+        ensures number { self.new.next_number ≡ self.old.next_number }
+    {
+        let first = *self.first()?;
         if first.at.cmp(now).is_gt() {
             None
         } else {
