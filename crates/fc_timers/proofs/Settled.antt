@@ -133,3 +133,7 @@ module _ {T V : Type 0} {cmp : T → T → Ordering} where
   pub unsettled_by : (slots : List (Slot T V)) (k : ℕ) (now was : Slot T V) → now.first ≡ (get_or slots k was).first → IsSettledBut cmp (helds slots) (firsts slots) 0 → IsSettledBut cmp (helds (set slots k now)) (firsts (set slots k now)) (k + 1)
   unsettled_by slots k now was same s =
       rw (map-set (λ s. s.held) slots k now, map-set_same (λ s. s.first) slots k now was same) (unsettled_at (helds slots) (firsts slots) k now.held s)
+
+  -- A write of neither settles nor unsettles a slot.
+  pub settled_by : (slots : List (Slot T V)) (k : ℕ) (now was : Slot T V) → now.held ≡ (get_or slots k was).held → now.first ≡ (get_or slots k was).first → IsSettledBut cmp (helds slots) (firsts slots) 0 → IsSettledBut cmp (helds (set slots k now)) (firsts (set slots k now)) 0
+  settled_by slots k now was held first s = rw (map-set_same (λ s. s.held) slots k now was held, map-set_same (λ s. s.first) slots k now was first) s

@@ -1,26 +1,48 @@
 -- What stands at a timer, and how it changes where one slot changes.
-use Rattle.std.proofs.Common.{◌≡◌, ◌≢◌, ◌⊎◌, ℕ, zero, suc, ◌+◌, ◌<◌, ◌≤◌, Bool, true, false, if◌then◌else◌, cond, List, [], ◌∷◌, ◌++◌, length, get_or, set, count_by, Option, Some, None, is_some, IsSome, refl, sym, ap, subst, ◌∙◌, inl, inr, arith}
+use Rattle.std.proofs.Common.{◌≡◌, ◌≢◌, ◌⊎◌, ℕ, zero, suc, ◌+◌, ◌<◌, ◌≤◌, Bool, true, false, if◌then◌else◌, cond, List, [], ◌∷◌, ◌++◌, length, get_or, set, map, Bor, count_by, Option, Some, None, is_some, IsSome, refl, sym, ap, subst, ◌∙◌, inl, inr, arith}
 use Rattle.std.proofs.lemmas.Bool.{cases_eq}
-use Rattle.std.proofs.lemmas.List.{get_or-set_same, get_or-set_other, get_or_past}
+use Rattle.std.proofs.lemmas.List.{get_or-set_same, get_or-set_other, get_or_past, get_or-map, length-map}
 use Rattle.std.proofs.lemmas.List.Sums.{sum_by-set}
 use Rattle.std.proofs.lemmas.Cmp.{upto}
 use Rattle.std.proofs.Math.Dec.{eqb}
-use Rattle.std.proofs.lemmas.Bool.{eqb-true, eqb-false, eq-eqb}
+use Rattle.std.proofs.lemmas.Bool.{eqb-true, eq-eqb, ltb-true, ltb-false}
 use Rattle.std.specs.Cmp.{IsTotalOrder}
+use Rattle.std.specs.Slice.{IsItemAt}
+use Rattle.std.specs.Option.{option_copied, IfNone, IfSome}
 use Rattle.std.specs.Ordering.{is_gt, is_le}
 use Rattle.std.specs.declared.cmp.Ordering.{Ordering}
 use Rattle.std.specs.declared.cmp.Ordering.TheVariants.{Less, Equal, Greater}
 use Rattle.fc_timers.specs.declared.timer.Timer.{Timer}
 use Rattle.fc_timers.specs.declared.timer.Armed.{Armed}
 use Rattle.fc_timers.specs.declared.slot.First.{First}
-use Rattle.fc_timers.specs.Timers.{Queue, armed, with_number, by_turn, due_first, precedes, timer_count, HasNone, IsChanged, IsEarliest}
+use Rattle.fc_timers.specs.Timers.{Queue, armed, with_number, by_turn, due_first, precedes, timer_count, AreGivenOut, HasNone, IsChanged, IsEarliest}
 use Rattle.fc_timers.specs.Tournament.{own_first, IsSettledBut, IsGivenOut, IsFirst}
 use Rattle.fc_timers.proofs.Settled.{IsAtMost, stands, top_first}
+
+module _ {X Y : Type 0} (f : X → Option Y) where
+  -- What f gives of the item at a place, as a slice lends it, and nothing past the end.
+  pub read_at : (xs : List X) (k : ℕ) (r : Option (Bor X)) (x : Bor X) → IsItemAt xs k r → r ≡ Some x → (k < length xs) × (get_or (map f xs) k None ≡ f x.now)
+  read_at xs k None x lent e = absurd cc
+  read_at xs k (Some y) x lent e =
+      let within : k < length xs = ltb-true k (length xs) (sym lent.0) in
+      let same : y ≡ x = cc in
+      (within, get_or-map f xs k y.now None within ∙ ap f (sym lent.1) ∙ ap (λ b. f b.now) same)
+
+  pub unread_at : (xs : List X) (k : ℕ) (r : Option (Bor X)) → IsItemAt xs k r → r ≡ None → get_or (map f xs) k None ≡ None
+  unread_at xs k None lent e = get_or_past (map f xs) k None (omega (arith, ltb-false k (length xs) (sym lent.0), length-map xs f))
+  unread_at xs k (Some y) lent e = absurd cc
 
 module _ {T V : Type 0} where
   -- The timer of a slot, if there is one, has this number.
   abbrev pub HasNumber : ℕ → Option (Armed T V) → Type 0
   HasNumber n h = (a : Armed T V) → h ≡ Some a → a.number ≡ n
+
+  -- A slot that holds no timer has any number.
+  pub none_numbered : (n : ℕ) (h : Option (Armed T V)) → h ≡ None → HasNumber n h
+  none_numbered n h e a e' = absurd cc
+
+  pub some_numbered : (n : ℕ) (h : Option (Armed T V)) (a : Armed T V) → h ≡ Some a → a.number ≡ n → HasNumber n h
+  some_numbered n h a e same b e' = let whole : a ≡ b = cc in ap (λ x. x.number) (sym whole) ∙ same
 
   own_number : (n : ℕ) (h : Option (Armed T V)) → HasNumber n h → with_number n h ≡ h
   own_number n None has = refl
@@ -41,6 +63,13 @@ module _ {T V : Type 0} where
       by_test : (t : Bool) → eqb b.number n ≡ t → (if t then Some b else None) ≡ Some a → (Some b ≡ Some a) × (a.number ≡ n)
       by_test true same e = let whole : b ≡ a = cc in (e, ap (λ x. x.number) (sym whole) ∙ eqb-true b.number n same)
       by_test false same e = absurd cc
+
+  -- A timer that stands there is found by its number, and by no other.
+  pub number_found : (n : ℕ) (h : Option (Armed T V)) (a : Armed T V) → Some a ≡ h → a.number ≡ n → Some a ≡ with_number n h
+  number_found n h a e same = sym (own_number n (Some a) (some_numbered n (Some a) a refl same)) ∙ ap (with_number n) e
+
+  pub number_missed : (n : ℕ) (h : Option (Armed T V)) (a : Armed T V) → Some a ≡ h → a.number ≢ n → None ≡ with_number n h
+  number_missed n h a e other = sym (other_number a.number n (Some a) (some_numbered a.number (Some a) a refl refl) (λ same. other (sym same))) ∙ ap (with_number n) e
 
   -- A timer that is in the queue stands in its slot.
   pub in_slot : (q : Queue T V) (timer : Timer) (a : Armed T V) → armed q timer ≡ Some a → (get_or q.slots timer.slot None ≡ Some a) × (a.number ≡ timer.number)
@@ -64,13 +93,6 @@ module _ {T V : Type 0} where
     ];
   }
 
-  -- A slot that holds no timer has any number.
-  pub none_numbered : (n : ℕ) (h : Option (Armed T V)) → h ≡ None → HasNumber n h
-  none_numbered n h e a e' = absurd cc
-
-  pub some_numbered : (n : ℕ) (h : Option (Armed T V)) (a : Armed T V) → h ≡ Some a → a.number ≡ n → HasNumber n h
-  some_numbered n h a e same b e' = let whole : a ≡ b = cc in ap (λ x. x.number) (sym whole) ∙ same
-
   -- Numbers and turns stay below the next one where a slot changes.
   pub given_out_set : (h : List (Option (Armed T V))) (k n m : ℕ) (x : Option (Armed T V)) → k < length h → n ≤ m → ((a : Armed T V) → x ≡ Some a → (a.number < m) × (a.turn < m)) → IsGivenOut h n → IsGivenOut (set h k x) m
   given_out_set h k n m x within more new old = record {
@@ -79,6 +101,9 @@ module _ {T V : Type 0} where
       | inr other ↦ let was = old.below j a (sym (get_or-set_other h k j x None other) ∙ e) in (omega arith, omega arith)
     ];
   }
+
+  pub given_out_of : (q : Queue T V) → IsGivenOut q.slots q.next_number → AreGivenOut q
+  given_out_of q h = record { turns = λ timer a e. (h.below timer.slot a (in_slot q timer a e).0).1 }
 
   pub count_none : (h : List (Option (Armed T V))) → ((k : ℕ) → get_or h k None ≡ None) → count_by is_some h ≡ 0
   count_none [] none = refl
@@ -138,3 +163,12 @@ module _ {T V : Type 0} {cmp : T → T → Ordering} (o : IsTotalOrder cmp) wher
               at = ap (λ x. x.at) whole;
               earliest = record { stands = at_slot q f.slot a held; first = λ other b there. first_of other.slot b (in_slot q other b there).0 };
             }
+
+    -- The same of a reference to what the slot at the top names.
+    pub top_none : (r : Option (Bor (First T))) → option_copied r ≡ get_or first 0 None → IfNone r (HasNone q × (timer_count q ≡ 0))
+    top_none None e = none_stands (sym e)
+    top_none (Some f) e = tt
+
+    pub top_some : (r : Option (Bor (First T))) → option_copied r ≡ get_or first 0 None → IfSome r (λ f. IsFirst cmp q f.now)
+    top_some None e = tt
+    top_some (Some f) e = first_is f.now (sym e)

@@ -30,6 +30,11 @@ module _ {T V : Type 0} where
   abbrev pub newly : Queue T V → T → V → Armed T V
   newly q at value = record { at = at; turn = q.next_number; number = q.next_number; value = value }
 
+  -- The timer, if there is one, with another time and turn.
+  abbrev pub renewed : T → ℕ → Option (Armed T V) → Option (Armed T V)
+  renewed at turn None = None
+  renewed at turn (Some a) = Some (record a { at = at; turn = turn })
+
   -- The one timer has this after a call, or is in the queue no more. Each other timer has what it had.
   pub record IsChanged (old new : Queue T V) (timer : Timer) (now : Option (Armed T V)) : Type 0 where
     pub here : armed new timer ≡ now

@@ -18,11 +18,6 @@ module _ {T V : Type 0} where
   own_first k None = None
   own_first k (Some a) = Some (record { at = a.at; turn = a.turn; slot = k })
 
-  -- The timer, if there is one, with another time and turn.
-  abbrev pub retimed : T → ℕ → Option (Armed T V) → Option (Armed T V)
-  retimed at turn None = None
-  retimed at turn (Some a) = Some (record a { at = at; turn = turn })
-
   -- Each timer has a number and a turn below this one.
   pub record IsGivenOut (held : List (Option (Armed T V))) (next_number : ℕ) : Type 0 where
     pub below : (k : ℕ) (a : Armed T V) → slice_index_or held k None ≡ Some a → (a.number < next_number) × (a.turn < next_number)

@@ -1,17 +1,16 @@
 //! The queue.
-ghost use Rattle.std.specs.Prelude.{◌≡◌, ℕ, ◌+◌, ◌<◌, ◌⊎◌, ◌↔◌, IsTrue, IfSome, IfNone, OnSome, IfOk, IfErr, OnOk, OnErr, IsErr, IsSome, Some, None, count_by, is_some, length, map, slice_index_or, slice_set, option_copied};
+ghost use Rattle.std.specs.Prelude.{◌≡◌, ℕ, ◌==◌, ◌∷◌, ◌++◌, [], if◌then◌else◌, ◌+◌, ◌<◌, ◌⊎◌, ◌↔◌, IsTrue, IfSome, IfNone, OnSome, IfOk, IfErr, OnOk, OnErr, IsErr, IsSome, Some, None, count_by, is_some, length, map, slice_index_or, slice_set, option_copied};
 ghost use Rattle.std.specs.Option.{option_map};
 ghost use Rattle.fc_base.specs.declared.try_reserve_error.TryReserveError.{TryReserveError as Error};
-ghost use Rattle.fc_timers.specs.Timers.{AreGivenOut, HasNone, IsChanged, IsEarliest, IsPopped, NoneDue, armed, newly, timer_count};
+ghost use Rattle.fc_timers.specs.Timers.{AreGivenOut, HasNone, IsChanged, IsEarliest, IsPopped, NoneDue, armed, newly, renewed, timer_count};
 ghost use Rattle.fc_timers.specs.Tournament.{IsFirst};
 ghost use Rattle.fc_timers.specs.declared.timer.Armed.{Armed as Held};
 ghost use Rattle.fc_timers.specs.declared.timer.Timer.{Timer as Key};
 
 use crate::slot::{First, Slot};
 use crate::timer::{Armed, Timer};
-use crate::tournament::{change, retime};
+use crate::tournament::{change, retime, vacate};
 use fc_base::{Handle, TryReserveError};
-use fc_vec::FallibleVec;
 use std::alloc::Global;
 use std::marker::Model;
 
@@ -71,14 +70,27 @@ impl<T: Ord, V, A: Handle> TimerQueue<T, V, A> {
 
     /// The timer's time, turn and value. `None` where it is not in the queue: it came out, or was cancelled.
     pub fn get(&self, timer: Timer) -> Option<&Armed<T, V>>
-        ensures value { option_copied result ≡ armed self.now timer }
-        ensures given_out { AreGivenOut self.now }
+        ensures { option_copied result ≡ armed self.now timer }
     {
-        let armed = self.slots.get(timer.slot)?.held.as_ref()?;
-        if armed.number == timer.number {
-            Some(armed)
-        } else {
-            None
+        match self.standing(timer.slot) {
+            Some(armed) => {
+                if armed.number == timer.number {
+                    Some(armed)
+                } else {
+                    None
+                }
+            }
+            None => None,
+        }
+    }
+
+    // The timer that stands in a slot.
+    fn standing(&self, slot: usize) -> Option<&Armed<T, V>>
+        ensures { option_copied result ≡ slice_index_or self.now.slots slot None }
+    {
+        match self.slots.get(slot) {
+            Some(slot) => slot.held.as_ref(),
+            None => None,
         }
     }
 
@@ -95,7 +107,10 @@ impl<T: Ord, V, A: Handle> TimerQueue<T, V, A> {
         ensures none { IfNone result (HasNone self.now × (timer_count self.now ≡ 0)) }
         ensures earliest { IfSome result (λ first. IsFirst T.cmp self.now first.now) }
     {
-        self.slots.first()?.first.as_ref()
+        match self.slots.get(0) {
+            Some(slot) => slot.first.as_ref(),
+            None => None,
+        }
     }
 }
 
@@ -104,8 +119,7 @@ impl<T: Ord + Copy + Drop, V: Drop, A: Handle> TimerQueue<T, V, A> {
     /// it ever held.
     ///
     /// # Errors
-    /// `AllocError` where a request for memory was refused; `CapacityOverflow` where the queue has no more room to ask for, or gave out
-    /// 2^64 - 1 turns. The queue is then as it was, and time and value come back.
+    /// `AllocError` where a request for memory was refused; `CapacityOverflow` where the queue gave out 2^64 - 1 turns. The queue is then as it was, and time and value come back.
     pub fn try_insert(&mut self, at: T, value: V) -> Result<Timer, (T, V, TryReserveError)>
         ensures inserted { IfOk result (λ timer. IsChanged self.old self.new timer (Some (newly self.old at value))) }
         ensures fresh { IfOk result (λ timer. armed self.old timer ≡ None) }
@@ -113,7 +127,9 @@ impl<T: Ord + Copy + Drop, V: Drop, A: Handle> TimerQueue<T, V, A> {
         ensures number { OnOk result (self.new.next_number ≡ self.old.next_number + 1) }
         ensures unchanged { OnErr result (self.new ≡ self.old) }
         ensures back { IfErr result (λ e. (e.0 ≡ at) × (e.1 ≡ value)) }
-        ensures used_up { self.old.next_number ≡ u64.MAX → IfErr result (λ e. e.2 ≡ Error.CapacityOverflow) }
+        ensures error { IfErr result (λ e. e.2 ≡ (if self.old.next_number == u64.MAX then Error.CapacityOverflow else Error.AllocError)) }
+        ensures used_up { self.old.next_number ≡ u64.MAX → IsErr result }
+        ensures behind { OnOk result (AreGivenOut self.old) }
     {
         if self.next_number == u64::MAX {
             return Err((at, value, TryReserveError::CapacityOverflow));
@@ -131,14 +147,42 @@ impl<T: Ord + Copy + Drop, V: Drop, A: Handle> TimerQueue<T, V, A> {
         ensures number { self.new.next_number ≡ self.old.next_number }
         ensures within { IfOk result (λ slot. (slot < length self.new.slots) × (slice_index_or self.new.slots slot None ≡ None)) }
         ensures unchanged { OnErr result (self.new ≡ self.old) }
+        ensures error { IfErr result (λ e. e ≡ Error.AllocError) }
+        ensures given_out { AreGivenOut self.old }
     {
-        if let Some(slot) = self.slots.get(self.vacant) {
-            if slot.held.is_none() {
-                return Ok(self.vacant);
-            }
+        match self.listed_slot() {
+            Some(slot) => Ok(slot),
+            None => self.add_slot(),
         }
+    }
+
+    // The first slot of the list of those where no timer stands.
+    fn listed_slot(&self) -> Option<usize>
+        ensures within { IfSome result (λ slot. (slot < length self.now.slots) × (slice_index_or self.now.slots slot None ≡ None)) }
+        ensures given_out { AreGivenOut self.now }
+    {
+        match self.slots.get(self.vacant) {
+            Some(slot) => {
+                if slot.held.is_none() {
+                    Some(self.vacant)
+                } else {
+                    None
+                }
+            }
+            None => None,
+        }
+    }
+
+    // Adds a slot, where no timer stands.
+    fn add_slot(&mut self) -> Result<usize, TryReserveError>
+        ensures slots { OnOk result (self.new.slots ≡ self.old.slots ++ None ∷ []) }
+        ensures number { self.new.next_number ≡ self.old.next_number }
+        ensures slot { IfOk result (λ slot. slot ≡ length self.old.slots) }
+        ensures unchanged { OnErr result (self.new ≡ self.old) }
+        ensures error { IfErr result (λ e. e ≡ Error.AllocError) }
+    {
         let slot = self.slots.len();
-        self.slots.try_reserve(1)?;
+        self.slots.reserve(1)?;
         self.slots.push_reserved(Slot {
             held: None,
             first: None,
@@ -194,8 +238,7 @@ impl<T: Ord + Copy + Drop, V: Drop, A: Handle> TimerQueue<T, V, A> {
         ensures number { self.new.next_number ≡ self.old.next_number }
         ensures count { timer_count self.new + 1 ≡ timer_count self.old }
     {
-        let armed = change(self.slots.as_mut_slice(), slot, None)?;
-        self.slots[slot].next_vacant = self.vacant;
+        let armed = vacate(self.slots.as_mut_slice(), slot, self.vacant)?;
         self.vacant = slot;
         self.len -= 1;
         Some((armed.at, armed.value))
@@ -205,7 +248,8 @@ impl<T: Ord + Copy + Drop, V: Drop, A: Handle> TimerQueue<T, V, A> {
     /// `None` where the timer is not in the queue, or 2^64 - 1 turns were given out; the queue then stays as it is.
     pub fn reschedule(&mut self, timer: Timer, at: T) -> Option<T>
         ensures answer { IfSome result (λ was. option_map (λ a. a.at) (armed self.old timer) ≡ Some was) }
-        ensures moved { OnSome result (IsChanged self.old self.new timer (option_map (λ a. record a { at = at; turn = self.old.next_number }) (armed self.old timer))) }
+        ensures moved { OnSome result (IsChanged self.old self.new timer (renewed at self.old.next_number (armed self.old timer))) }
+        ensures behind { OnSome result (AreGivenOut self.old) }
         ensures number { OnSome result (self.new.next_number ≡ self.old.next_number + 1) }
         ensures none { IfNone result ((armed self.old timer ≡ None) ⊎ (self.old.next_number ≡ u64.MAX)) }
         ensures unchanged { IfNone result (self.new ≡ self.old) }

@@ -1,7 +1,8 @@
 //! The tournament among the slots: each names the first to be due of its own timer and of those below it, so the slot at the top names
 //! the first of all. A change of one slot is settled there and at each slot above it.
 ghost use Rattle.std.specs.Prelude.{◌≡◌, ◌+◌, ◌*◌, ◌<◌, Some, None, length, slice_index_or, slice_set};
-ghost use Rattle.fc_timers.specs.Tournament.{IsSettledBut, earlier as first_of, first_from, firsts, helds, own_first as own, retimed};
+ghost use Rattle.fc_timers.specs.Tournament.{IsSettledBut, earlier as first_of, first_from, firsts, helds, own_first as own};
+ghost use Rattle.fc_timers.specs.Timers.{renewed};
 
 use crate::order::earlier;
 use crate::slot::{First, Slot};
@@ -85,10 +86,27 @@ pub(crate) fn change<T: Ord + Copy, V>(
     was
 }
 
+/// Takes the timer out of a slot, which leads to another slot then.
+pub(crate) fn vacate<T: Ord + Copy, V>(
+    slots: &mut [Slot<T, V>],
+    slot: usize,
+    next_vacant: usize,
+) -> Option<Armed<T, V>>
+    requires within { slot < length slots.old }
+    requires settled { IsSettledBut T.cmp (helds slots.old) (firsts slots.old) 0 }
+    ensures was { result ≡ slice_index_or (helds slots.old) slot None }
+    ensures held { helds slots.new ≡ slice_set (helds slots.old) slot None }
+    ensures settled { IsSettledBut T.cmp (helds slots.new) (firsts slots.new) 0 }
+{
+    let was = change(slots, slot, None);
+    slots[slot].next_vacant = next_vacant;
+    was
+}
+
 // Writes the time and the turn of the timer of a slot, where one stands there.
 fn write_time<T: Copy, V>(slots: &mut [Slot<T, V>], slot: usize, at: T, turn: u64)
     requires { slot < length slots.old }
-    ensures held { helds slots.new ≡ slice_set (helds slots.old) slot (retimed at turn (slice_index_or (helds slots.old) slot None)) }
+    ensures held { helds slots.new ≡ slice_set (helds slots.old) slot (renewed at turn (slice_index_or (helds slots.old) slot None)) }
     ensures first { firsts slots.new ≡ firsts slots.old }
 {
     if let Some(armed) = &mut slots[slot].held {
@@ -101,7 +119,7 @@ fn write_time<T: Copy, V>(slots: &mut [Slot<T, V>], slot: usize, at: T, turn: u6
 pub(crate) fn retime<T: Ord + Copy, V>(slots: &mut [Slot<T, V>], slot: usize, at: T, turn: u64)
     requires within { slot < length slots.old }
     requires settled { IsSettledBut T.cmp (helds slots.old) (firsts slots.old) 0 }
-    ensures held { helds slots.new ≡ slice_set (helds slots.old) slot (retimed at turn (slice_index_or (helds slots.old) slot None)) }
+    ensures held { helds slots.new ≡ slice_set (helds slots.old) slot (renewed at turn (slice_index_or (helds slots.old) slot None)) }
     ensures settled { IsSettledBut T.cmp (helds slots.new) (firsts slots.new) 0 }
 {
     write_time(slots, slot, at, turn);
