@@ -110,13 +110,17 @@ module _ {T V : Type 0} where
   count_none (None ∷ h) none = count_none h (λ k. none (suc k))
   count_none (Some a ∷ h) none = let first : Some a ≡ None = none 0 in absurd cc
 
-  pub get_or_push_none : (h : List (Option (Armed T V))) (k : ℕ) → get_or (h ++ None ∷ []) k None ≡ get_or h k None
-  get_or_push_none [] zero = refl
-  get_or_push_none [] (suc k) = refl
-  get_or_push_none (x ∷ h) zero = refl
-  get_or_push_none (x ∷ h) (suc k) = get_or_push_none h k
+pub none_from_test : {X : Type 0} (h : Option X) → is_some h ≡ false → h ≡ None
+none_from_test None e = refl
+none_from_test (Some x) e = absurd cc
 
-not_later : (r : Ordering) → is_gt r ≡ false → is_le r ≡ true
+pub get_or_push_none : {X : Type 0} (h : List (Option X)) (k : ℕ) → get_or (h ++ None ∷ []) k None ≡ get_or h k None
+get_or_push_none [] zero = refl
+get_or_push_none [] (suc k) = refl
+get_or_push_none (x ∷ h) zero = refl
+get_or_push_none (x ∷ h) (suc k) = get_or_push_none h k
+
+pub not_later : (r : Ordering) → is_gt r ≡ false → is_le r ≡ true
 not_later Less e = refl
 not_later Equal e = refl
 not_later Greater e = absurd cc

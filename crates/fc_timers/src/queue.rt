@@ -129,7 +129,6 @@ impl<T: Ord + Copy + Drop, V: Drop, A: Handle> TimerQueue<T, V, A> {
         ensures back { IfErr result (λ e. (e.0 ≡ at) × (e.1 ≡ value)) }
         ensures error { IfErr result (λ e. e.2 ≡ (if self.old.next_number == u64.MAX then Error.CapacityOverflow else Error.AllocError)) }
         ensures used_up { self.old.next_number ≡ u64.MAX → IsErr result }
-        ensures behind { OnOk result (AreGivenOut self.old) }
     {
         if self.next_number == u64::MAX {
             return Err((at, value, TryReserveError::CapacityOverflow));
@@ -148,7 +147,6 @@ impl<T: Ord + Copy + Drop, V: Drop, A: Handle> TimerQueue<T, V, A> {
         ensures within { IfOk result (λ slot. (slot < length self.new.slots) × (slice_index_or self.new.slots slot None ≡ None)) }
         ensures unchanged { OnErr result (self.new ≡ self.old) }
         ensures error { IfErr result (λ e. e ≡ Error.AllocError) }
-        ensures given_out { AreGivenOut self.old }
     {
         match self.listed_slot() {
             Some(slot) => Ok(slot),
@@ -159,7 +157,6 @@ impl<T: Ord + Copy + Drop, V: Drop, A: Handle> TimerQueue<T, V, A> {
     // The first slot of the list of those where no timer stands.
     fn listed_slot(&self) -> Option<usize>
         ensures within { IfSome result (λ slot. (slot < length self.now.slots) × (slice_index_or self.now.slots slot None ≡ None)) }
-        ensures given_out { AreGivenOut self.now }
     {
         match self.slots.get(self.vacant) {
             Some(slot) => {
@@ -246,7 +243,6 @@ impl<T: Ord + Copy + Drop, V: Drop, A: Handle> TimerQueue<T, V, A> {
     pub fn reschedule(&mut self, timer: Timer, at: T) -> Option<T>
         ensures answer { IfSome result (λ was. option_map (λ a. a.at) (armed self.old timer) ≡ Some was) }
         ensures moved { OnSome result (IsChanged self.old self.new timer (renewed at self.old.next_number (armed self.old timer))) }
-        ensures behind { OnSome result (AreGivenOut self.old) }
         ensures number { OnSome result (self.new.next_number ≡ self.old.next_number + 1) }
         ensures none { IfNone result ((armed self.old timer ≡ None) ⊎ (self.old.next_number ≡ u64.MAX)) }
         ensures unchanged { IfNone result (self.new ≡ self.old) }
