@@ -1,16 +1,17 @@
 -- A queue stays sound where one slot changes, and where a slot is added.
-use Rattle.std.proofs.Common.{◌≡◌, ℕ, zero, suc, ◌+◌, ◌-◌, ◌*◌, ◌<◌, ◌≤◌, cond, List, [], ◌∷◌, ◌++◌, length, get_or, set, count_by, Option, Some, None, is_some, IsSome, refl, sym, ap, ◌∙◌, arith}
+use Rattle.std.proofs.Common.{◌≡◌, ℕ, zero, suc, ◌+◌, ◌-◌, ◌*◌, ◌<◌, ◌≤◌, cond, List, [], ◌∷◌, ◌++◌, length, get_or, set, count_by, Option, Some, None, is_some, IsSome, false, refl, sym, ap, ◌∙◌, arith}
 use Rattle.std.proofs.lemmas.List.{length-map, map_push}
 use Rattle.std.proofs.lemmas.List.Sums.{sum_by-set, sum_by_push, count_by-le-length}
 use Rattle.std.specs.Option.{OnSome, IfNone, IfSome, option_map}
+use Rattle.std.specs.Ordering.{is_gt}
 use Rattle.std.specs.declared.cmp.Ordering.{Ordering}
 use Rattle.fc_timers.specs.declared.timer.Timer.{Timer}
 use Rattle.fc_timers.specs.declared.timer.Armed.{Armed}
 use Rattle.fc_timers.specs.declared.slot.First.{First}
 use Rattle.fc_timers.specs.declared.slot.Slot.{Slot}
-use Rattle.fc_timers.specs.Timers.{Queue, armed, renewed, timer_count, IsChanged}
-use Rattle.fc_timers.specs.Tournament.{helds, firsts, own_first, earlier, IsSettledBut, IsGivenOut, IsSound}
-use Rattle.fc_timers.proofs.Standing.{given_out_set, get_or_push_none, in_slot, slot_changed, none_numbered, some_numbered}
+use Rattle.fc_timers.specs.Timers.{Queue, armed, renewed, timer_count, IsChanged, IsPopped}
+use Rattle.fc_timers.specs.Tournament.{helds, firsts, own_first, earlier, IsSettledBut, IsFirst, IsGivenOut, IsSound}
+use Rattle.fc_timers.proofs.Standing.{given_out_set, get_or_push_none, in_slot, slot_changed, none_numbered, not_later, some_numbered}
 
 pub on_some : {X : Type 0} {P : Type 0} (r : Option X) → P → OnSome r P
 on_some None p = tt
@@ -125,3 +126,23 @@ module _ {T V : Type 0} where
         slot_changed old new timer (renewed at turn (Some a)) within known (some_numbered timer.number _ _ refl there.1) (some_numbered timer.number _ a there.0 there.1),
         ap (count_by is_some) known ∙ count_renewed old.slots timer.slot within a _ there.0,
       )
+
+  pub there : (h : Option (Armed T V)) → IsSome h → (a : Armed T V) × (h ≡ Some a)
+  there None some = absurd cc
+  there (Some a) some = (a, refl)
+
+module _ {T V : Type 0} {cmp : T → T → Ordering} where
+  -- Taking the first timer out, where it is due, is what a call says that answers it.
+  pub popped : (old new : Queue T V) (f : First T) (now : T) → IsFirst cmp old f → is_gt (cmp f.at now) ≡ false → new.slots ≡ set old.slots f.slot None → (r : Option (T × V)) → r ≡ option_map (λ a. (a.at, a.value)) (get_or old.slots f.slot None) → IfSome r (IsPopped cmp old new now)
+  popped old new f now first due written None answer = tt
+  popped old new f now first due written (Some pair) answer =
+      let taken = first.armed in
+      let pairs = answer ∙ ap (option_map (λ (a : Armed T V). (a.at, a.value))) first.held in
+      record {
+        timer = record { slot = f.slot; number = taken.number };
+        taken = taken;
+        answer = cc;
+        earliest = first.earliest;
+        due = not_later (cmp taken.at now) (ap (λ t. is_gt (cmp t now)) first.at ∙ due);
+        changed = (taken_out old new (record { slot = f.slot; number = taken.number }) taken first.earliest.stands written).0;
+      }

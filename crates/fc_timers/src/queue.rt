@@ -252,9 +252,19 @@ impl<T: Ord + Copy + Drop, V: Drop, A: Handle> TimerQueue<T, V, A> {
         if self.next_number == u64::MAX {
             return None;
         }
-        retime(self.slots.as_mut_slice(), timer.slot, at, self.next_number);
-        self.next_number += 1;
+        self.renew(timer.slot, at);
         Some(was)
+    }
+
+    // Gives the timer of a slot another time, and the next turn.
+    fn renew(&mut self, slot: usize, at: T)
+        requires number { self.old.next_number < u64.MAX }
+        requires held { IsSome (slice_index_or self.old.slots slot None) }
+        ensures slots { self.new.slots ≡ slice_set self.old.slots slot (renewed at self.old.next_number (slice_index_or self.old.slots slot None)) }
+        ensures number { self.new.next_number ≡ self.old.next_number + 1 }
+    {
+        retime(self.slots.as_mut_slice(), slot, at, self.next_number);
+        self.next_number += 1;
     }
 
     /// Takes the first timer out, where it is due at this time, and answers its time and value. `None` where no timer is due, and the queue stays as
