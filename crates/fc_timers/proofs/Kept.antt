@@ -1,7 +1,7 @@
 -- A queue stays sound where one slot changes, and where a slot is added.
 use Rattle.std.proofs.Common.{◌≡◌, ℕ, zero, suc, ◌+◌, ◌-◌, ◌*◌, ◌<◌, ◌≤◌, cond, List, [], ◌∷◌, ◌++◌, length, get_or, set, count_by, Option, Some, None, is_some, IsSome, false, refl, sym, ap, ◌∙◌, arith}
 use Rattle.std.proofs.lemmas.List.{length-map, map_push}
-use Rattle.std.proofs.lemmas.List.Sums.{sum_by-set, sum_by_push, count_by-le-length}
+use Rattle.std.proofs.lemmas.List.Sums.{sum_by-set, sum_by_push}
 use Rattle.std.specs.Option.{OnSome, IfNone, IfSome, option_map}
 use Rattle.std.specs.Ordering.{is_gt}
 use Rattle.std.specs.declared.cmp.Ordering.{Ordering}

@@ -1,7 +1,6 @@
 -- Timers of a queue: what stands at each, and which of them comes out first.
-use Rattle.std.specs.Prelude.{◌≡◌, ◌≢◌, ◌⊎◌, ℕ, ◌<◌, ◌==◌, leb, Bool, true, false, if◌then◌else◌, List, Option, Some, None, is_some, count_by, slice_index_or}
+use Rattle.std.specs.Prelude.{◌≡◌, ◌≢◌, ℕ, ◌<◌, ◌==◌, leb, Bool, true, false, if◌then◌else◌, List, Option, Some, None, is_some, count_by, slice_index_or}
 use Rattle.std.specs.Ordering.{is_le, is_gt}
-use Rattle.std.specs.Option.{option_map}
 use Rattle.std.specs.declared.cmp.Ordering.{Ordering}
 use Rattle.std.specs.declared.cmp.Ordering.TheVariants.{Less, Equal, Greater}
 use Rattle.fc_timers.specs.declared.timer.Timer.{Timer}

@@ -1,4 +1,3 @@
-use Rattle.std.proofs.Common.{sym}
 use Rattle.fc_timers.specs.Tournament.{helds, firsts}
 use Rattle.fc_timers.proofs.Settled.{unsettled_at}
 use Rattle.fc_timers.proofs.tournament.retime.Goals as goal

@@ -1,6 +1,6 @@
-use Rattle.std.proofs.Common.{◌∙◌, arith, sym, length, ap, map, subst, ◌/◌}
+use Rattle.std.proofs.Common.{◌∙◌, arith}
 use Rattle.std.proofs.lemmas.List.{length-map}
-use Rattle.fc_timers.specs.Tournament.{helds, firsts, IsSettledBut}
+use Rattle.fc_timers.specs.Tournament.{helds, firsts}
 use Rattle.fc_timers.proofs.Settled.{settled_step}
 use Rattle.fc_timers.proofs.tournament.settle_up.Goals as goal
 

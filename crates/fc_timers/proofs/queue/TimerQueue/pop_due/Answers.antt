@@ -1,4 +1,4 @@
-use Rattle.std.proofs.Common.{◌≡◌, true, false, sym, ap, ◌∙◌}
+use Rattle.std.proofs.Common.{sym, ap, ◌∙◌}
 use Rattle.std.specs.Ordering.{is_gt}
 use Rattle.fc_timers.proofs.Standing.{not_due_after}
 use Rattle.fc_timers.proofs.Kept.{popped}
