@@ -69,15 +69,20 @@ module _ {T V : Type 0} {cmp : T → T → Ordering} where
       where
         named : Option (First T)
         named = first_from cmp held first (n - 1)
+
         written : List (Option (First T))
         written = set first (n - 1) named
+
         kept : (k : ℕ) → k ≢ n - 1 → get_or written k None ≡ get_or first k None
         kept k other = get_or-set_other first (n - 1) k named None other
+
         from : (j : ℕ) → 2 * j + 1 ≢ n - 1 → 2 * j + 2 ≢ n - 1 → first_from cmp held written j ≡ first_from cmp held first j
         from j left right = λ i. earlier cmp (own_first j (get_or held j None)) (earlier cmp (kept (2 * j + 1) left i) (kept (2 * j + 2) right i))
+
         here : (j : ℕ) → j ≡ n - 1 → IsSettled cmp held written j
         here j same =
             subst (IsSettled cmp held written) (sym same) (get_or-set_same first (n - 1) named None (omega arith) ∙ sym (from (n - 1) (omega arith) (omega arith)))
+
         there : (j : ℕ) → j ≢ n - 1 → j + 1 ≢ n / 2 → IsSettled cmp held written j
         there j other apart = kept j other ∙ s.settled j (omega arith) ∙ sym (from j (omega arith) (omega arith))
 

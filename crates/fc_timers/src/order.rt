@@ -25,13 +25,7 @@ pub(crate) fn earlier<T: Ord + Copy>(
     ensures { result ≡ first_of T.cmp one other }
 {
     match (one, other) {
-        (Some(a), Some(b)) => {
-            if precedes(&a, &b) {
-                Some(a)
-            } else {
-                Some(b)
-            }
-        }
+        (Some(a), Some(b)) => { if precedes(&a, &b) { Some(a) } else { Some(b) } }
         (Some(a), None) => Some(a),
         (None, b) => b,
     }
