@@ -1,8 +1,8 @@
 -- A queue stays sound where one slot changes, and where a slot is added.
-use Rattle.std.proofs.Common.{◌≡◌, ℕ, zero, suc, ◌+◌, ◌-◌, ◌*◌, ◌<◌, ◌≤◌, cond, List, [], ◌∷◌, ◌++◌, length, get_or, set, count_by, Option, Some, None, is_some, IsSome, false, refl, sym, ap, ◌∙◌, arith}
-use Rattle.std.proofs.lemmas.List.{length-map, map_push}
+use Rattle.std.proofs.Common.{◌≡◌, ℕ, zero, suc, ◌+◌, ◌-◌, ◌*◌, ◌^◌, ◌<◌, ◌≤◌, cond, List, [], ◌∷◌, ◌++◌, length, get_or, set, count_by, Option, Some, None, is_some, IsSome, false, refl, sym, ap, subst, ◌∙◌, arith}
+use Rattle.std.proofs.lemmas.List.{length-map, length-set, length_push, map_push}
 use Rattle.std.proofs.lemmas.List.Sums.{sum_by-set, sum_by_push}
-use Rattle.std.specs.Option.{OnSome, IfNone, IfSome, option_map}
+use Rattle.std.specs.Option.{IfSome, option_map}
 use Rattle.std.specs.Ordering.{is_gt}
 use Rattle.std.specs.declared.cmp.Ordering.{Ordering}
 use Rattle.fc_timers.specs.declared.timer.Timer.{Timer}
@@ -10,16 +10,9 @@ use Rattle.fc_timers.specs.declared.timer.Armed.{Armed}
 use Rattle.fc_timers.specs.declared.slot.First.{First}
 use Rattle.fc_timers.specs.declared.slot.Slot.{Slot}
 use Rattle.fc_timers.specs.Timers.{Queue, armed, renewed, timer_count, IsChanged, IsPopped}
-use Rattle.fc_timers.specs.Tournament.{helds, firsts, own_first, earlier, IsSettledBut, IsFirst, IsGivenOut, IsSound}
+use Rattle.fc_timers.specs.Tournament.{helds, firsts, nexts, own_first, earlier, IsSettledBut, IsFirst, IsGivenOut, IsSound, IsVacantList}
+use Rattle.fc_timers.proofs.Listed.{listed_ahead, listed_as, listed_new, listed_rest, listed_still}
 use Rattle.fc_timers.proofs.Standing.{given_out_set, get_or_push_none, in_slot, slot_changed, none_numbered, not_later, some_numbered}
-
-pub on_some : {X : Type 0} {P : Type 0} (r : Option X) → P → OnSome r P
-on_some None p = tt
-on_some (Some x) p = p
-
-pub none_of_some : {X : Type 0} (P : Type 0) (r : Option X) (x : X) → r ≡ Some x → IfNone r P
-none_of_some P None x e = absurd cc
-none_of_some P (Some y) x e = tt
 
 abbrev one : {X : Type 0} → Option X → ℕ
 one o = cond (is_some o) 1 0
@@ -43,47 +36,75 @@ module _ {T V : Type 0} (h : List (Option (Armed T V))) (k : ℕ) (within : k < 
       let there : one (get_or h k None) ≡ 1 = ap one was in
       omega arith
 
-module _ {T V : Type 0} {cmp : T → T → Ordering} (slots new : List (Slot T V)) (k len n : ℕ) (within : k < length slots) (sound : IsSound cmp slots len n) (settled : IsSettledBut cmp (helds new) (firsts new) 0) where
+-- The lists of the slots are as long as the slots.
+lengths : {T V : Type 0} (slots : List (Slot T V)) → (length (helds slots) ≡ length slots) × (length (nexts slots) ≡ length slots)
+lengths slots = (length-map slots (λ s. s.held), length-map slots (λ s. s.next_vacant))
+
+module _ {T V : Type 0} {cmp : T → T → Ordering} (slots new : List (Slot T V)) (k len n vacant : ℕ) (within : k < length slots) (sound : IsSound cmp slots len n vacant) (settled : IsSettledBut cmp (helds new) (firsts new) 0) where
   inside : k < length (helds slots)
-  inside = omega (arith, length-map slots (λ s. s.held))
+  inside = omega (arith, (lengths slots).0)
 
   given_out : (x : Option (Armed T V)) (m : ℕ) → helds new ≡ set (helds slots) k x → n ≤ m → ((a : Armed T V) → x ≡ Some a → (a.number < m) × (a.turn < m)) → IsGivenOut (helds new) m
   given_out x m written more below = rw written (given_out_set (helds slots) k n m x inside more below sound.given_out)
 
-  pub sound_filled : (a : Armed T V) → get_or (helds slots) k None ≡ None → helds new ≡ set (helds slots) k (Some a) → a.number ≡ n → a.turn ≡ n → IsSound cmp new (len + 1) (n + 1)
-  sound_filled a was written number turn = record {
+  as_long : (x : Option (Armed T V)) → helds new ≡ set (helds slots) k x → length new ≡ length slots
+  as_long x written = omega (arith, (lengths slots).0, (lengths new).0, ap length written, length-set (helds slots) k x)
+
+  pub sound_filled : (a : Armed T V) (m : ℕ) → length slots < 2 ^ 64 → len + suc m ≡ length slots → IsVacantList (helds slots) (nexts slots) (suc m) k → helds new ≡ set (helds slots) k (Some a) → nexts new ≡ nexts slots → a.number ≡ n → a.turn ≡ n → IsSound cmp new (len + 1) (n + 1) (get_or (nexts slots) k 0)
+  sound_filled a m fits total listed written named number turn = record {
     settled = settled;
-    counted = omega (arith, sound.counted, ap (count_by is_some) written, count_filled (helds slots) k inside a was);
-    given_out = given_out (Some a) (n + 1) written (omega arith) (λ b e. let same : a ≡ b = cc in (omega (arith, ap (λ (x : Armed T V). x.number) same), omega (arith, ap (λ (x : Armed T V). x.turn) same)));
+    counted = omega (arith, sound.counted, ap (count_by is_some) written, count_filled (helds slots) k inside a listed.1);
+    given_out = given_out (Some a) (n + 1) written (omega arith) (λ b e.
+        let same : a ≡ b = cc in
+        (omega (arith, ap (λ (x : Armed T V). x.number) same), omega (arith, ap (λ (x : Armed T V). x.turn) same)));
+    vacancies = m;
+    total = omega (arith, as_long (Some a) written);
+    listed = listed_as _ _ _ _ m _ written named (listed_rest (helds slots) (nexts slots) m k (omega (arith, (lengths slots).0)) (Some a) listed);
   }
 
-  pub sound_emptied : (a : Armed T V) → get_or (helds slots) k None ≡ Some a → helds new ≡ set (helds slots) k None → (1 ≤ len) × IsSound cmp new (len - 1) n
-  sound_emptied a was written =
+  pub sound_emptied : (a : Armed T V) → get_or (helds slots) k None ≡ Some a → helds new ≡ set (helds slots) k None → nexts new ≡ set (nexts slots) k vacant → (1 ≤ len) × IsSound cmp new (len - 1) n k
+  sound_emptied a was written named =
       let counted = count_emptied (helds slots) k inside a was in (
         omega (arith, sound.counted),
         record {
           settled = settled;
           counted = omega (arith, sound.counted, ap (count_by is_some) written);
           given_out = given_out None n written (omega arith) (λ b e. absurd cc);
+          vacancies = suc sound.vacancies;
+          total = omega (arith, sound.counted, sound.total, as_long None written);
+          listed = listed_as _ _ _ _ (suc sound.vacancies) k written named (listed_ahead (helds slots) (nexts slots) sound.vacancies k a (omega (arith, (lengths slots).0, (lengths slots).1)) inside was vacant sound.listed);
         },
       )
 
-  pub sound_renewed : (a b : Armed T V) → get_or (helds slots) k None ≡ Some a → helds new ≡ set (helds slots) k (Some b) → b.number ≡ a.number → b.turn ≡ n → IsSound cmp new len (n + 1)
-  sound_renewed a b was written number turn = record {
+  pub sound_renewed : (a b : Armed T V) → get_or (helds slots) k None ≡ Some a → helds new ≡ set (helds slots) k (Some b) → nexts new ≡ nexts slots → b.number ≡ a.number → b.turn ≡ n → IsSound cmp new len (n + 1) vacant
+  sound_renewed a b was written named number turn = record {
     settled = settled;
     counted = omega (arith, sound.counted, ap (count_by is_some) written, count_renewed (helds slots) k inside a b was);
     given_out = given_out (Some b) (n + 1) written (omega arith) (λ d e.
         let same : b ≡ d = cc in
         let below = sound.given_out.below k a was in
         (omega (arith, ap (λ (x : Armed T V). x.number) same), omega (arith, ap (λ (x : Armed T V). x.turn) same)));
+    vacancies = sound.vacancies;
+    total = omega (arith, sound.total, as_long (Some b) written);
+    listed = listed_as _ _ _ _ sound.vacancies vacant written named (listed_still (helds slots) (nexts slots) sound.vacancies k a (Some b) was vacant sound.listed);
   }
 
-module _ {T V : Type 0} {cmp : T → T → Ordering} where
-  -- A vacant slot behind the others changes nothing.
-  pub sound_pushed : (slots : List (Slot T V)) (last : Slot T V) (len n : ℕ) → last.held ≡ None → last.first ≡ None → IsSound cmp slots len n → IsSound cmp (slots ++ last ∷ []) len n
-  sound_pushed slots last len n held first sound =
+module _ {T V : Type 0} {cmp : T → T → Ordering} (slots : List (Slot T V)) (len n vacant : ℕ) (sound : IsSound cmp slots len n vacant) where
+  -- Where fewer hold a timer than there are slots, the list names one.
+  pub first_vacancy : len < length slots → (m : ℕ) × (len + suc m ≡ length slots) × IsVacantList (helds slots) (nexts slots) (suc m) vacant
+  first_vacancy fewer = by_count sound.vacancies sound.total sound.listed
+    where
+      by_count : (m : ℕ) → len + m ≡ length slots → IsVacantList (helds slots) (nexts slots) m vacant → (m : ℕ) × (len + suc m ≡ length slots) × IsVacantList (helds slots) (nexts slots) (suc m) vacant
+      by_count zero total listed = absurd (omega arith)
+      by_count (suc m) total listed = (m, total, listed)
+
+  -- A vacant slot behind the others changes nothing else.
+  pub sound_pushed : (last : Slot T V) → last.held ≡ None → last.first ≡ None → last.next_vacant ≡ vacant → (at : ℕ) → at ≡ length slots → IsSound cmp (slots ++ last ∷ []) len n at
+  sound_pushed last held first next at is =
       let more : helds (slots ++ last ∷ []) ≡ helds slots ++ None ∷ [] = map_push (λ s. s.held) slots last ∙ ap (λ h. helds slots ++ h ∷ []) held in
       let named : firsts (slots ++ last ∷ []) ≡ firsts slots ++ None ∷ [] = map_push (λ s. s.first) slots last ∙ ap (λ h. firsts slots ++ h ∷ []) first in
+      let linked : nexts (slots ++ last ∷ []) ≡ nexts slots ++ vacant ∷ [] = map_push (λ s. s.next_vacant) slots last ∙ ap (λ h. nexts slots ++ h ∷ []) next in
+      let listed = listed_new (helds slots) (nexts slots) sound.vacancies vacant (omega (arith, (lengths slots).0, (lengths slots).1)) sound.listed in
       record {
         settled = rw (more, named) record {
           settled = λ k apart. get_or_push_none (firsts slots) k ∙ sound.settled.settled k apart
@@ -92,6 +113,9 @@ module _ {T V : Type 0} {cmp : T → T → Ordering} where
         };
         counted = rw more (omega (arith, sound.counted, sum_by_push one (helds slots) None));
         given_out = rw more record { below = λ k a e. sound.given_out.below k a (sym (get_or_push_none (helds slots) k) ∙ e) };
+        vacancies = suc sound.vacancies;
+        total = omega (arith, sound.total, length_push slots last);
+        listed = listed_as _ _ _ _ (suc sound.vacancies) at more linked (subst (λ k. IsVacantList (helds slots ++ None ∷ []) (nexts slots ++ vacant ∷ []) (suc sound.vacancies) k) ((lengths slots).0 ∙ sym is) listed);
       }
 
 module _ {T V : Type 0} where
@@ -108,13 +132,6 @@ module _ {T V : Type 0} where
         slot_changed old new timer None within written (none_numbered timer.number None refl) (some_numbered timer.number _ a there.0 there.1),
         ap (λ s. count_by is_some s + 1) written ∙ count_emptied old.slots timer.slot within a there.0,
       )
-
-  -- A timer put into a slot where none stood is in the queue.
-  pub put_in : (old new : Queue T V) (timer : Timer) (a : Armed T V) → timer.slot < length old.slots → get_or old.slots timer.slot None ≡ None → a.number ≡ timer.number → new.slots ≡ set old.slots timer.slot (Some a) → IsChanged old new timer (Some a) × (timer_count new ≡ timer_count old + 1)
-  put_in old new timer a within vacant number written = (
-    slot_changed old new timer (Some a) within written (some_numbered timer.number (Some a) a refl number) (none_numbered timer.number _ vacant),
-    ap (count_by is_some) written ∙ count_filled old.slots timer.slot within a vacant,
-  )
 
   -- A timer of which the time and the turn are written anew stays what it is.
   pub moved : (old new : Queue T V) (timer : Timer) (a : Armed T V) (at : T) (turn : ℕ) → armed old timer ≡ Some a → new.slots ≡ set old.slots timer.slot (renewed at turn (get_or old.slots timer.slot None)) → IsChanged old new timer (renewed at turn (armed old timer)) × (timer_count new ≡ timer_count old)

@@ -6,10 +6,12 @@ use Rattle.std.specs.declared.cmp.Ordering.TheVariants.{Less, Equal, Greater}
 use Rattle.fc_timers.specs.declared.timer.Timer.{Timer}
 use Rattle.fc_timers.specs.declared.timer.Armed.{Armed}
 
--- A queue as contracts see it: the timer that stands in each slot, where one does, and the number and turn that are given out next.
+-- A queue as contracts see it: the timer that stands in each slot, where one does, the number and turn that are given out next, and how many timers fit before
+-- the next request for memory.
 pub record Queue (T V : Type 0) : Type 0 where
   pub slots : List (Option (Armed T V))
   pub next_number : ℕ
+  pub room : ℕ
 
 module _ {T V : Type 0} where
   -- The timer, where it has the number.

@@ -1,5 +1,5 @@
 -- The tournament among the slots of a queue. No public clause cites this module.
-use Rattle.std.specs.Prelude.{◌≡◌, ◌≢◌, ℕ, ◌+◌, ◌*◌, ◌<◌, if◌then◌else◌, List, map, Option, Some, None, is_some, count_by, slice_index_or}
+use Rattle.std.specs.Prelude.{◌≡◌, ◌≢◌, ℕ, zero, suc, ◌+◌, ◌*◌, ◌^◌, ◌<◌, ◌≤◌, if◌then◌else◌, List, map, Option, Some, None, is_some, count_by, length, slice_index_or}
 use Rattle.std.specs.declared.cmp.Ordering.{Ordering}
 use Rattle.fc_timers.specs.declared.timer.Armed.{Armed}
 use Rattle.fc_timers.specs.declared.slot.First.{First}
@@ -12,6 +12,14 @@ module _ {T V : Type 0} where
 
   abbrev pub firsts : List (Slot T V) → List (Option (First T))
   firsts slots = map (λ s. s.first) slots
+
+  abbrev pub nexts : List (Slot T V) → List ℕ
+  nexts slots = map (λ s. s.next_vacant) slots
+
+  -- From this slot on so many hold no timer, of which each names the next, and the last one names none.
+  abbrev pub IsVacantList : List (Option (Armed T V)) → List ℕ → ℕ → ℕ → Type 0
+  IsVacantList held next zero k = 2 ^ 64 ≤ k + 1
+  IsVacantList held next (suc n) k = (k < length held) × (slice_index_or held k None ≡ None) × IsVacantList held next n (slice_index_or next k 0)
 
   -- When the timer in slot k is due.
   abbrev pub own_first : ℕ → Option (Armed T V) → Option (First T)
@@ -43,11 +51,14 @@ module _ {T V : Type 0} (cmp : T → T → Ordering) where
   pub record IsSettledBut (held : List (Option (Armed T V))) (first : List (Option (First T))) (n : ℕ) : Type 0 where
     pub settled : (k : ℕ) → k + 1 ≢ n → IsSettled held first k
 
-  -- The slots are a tournament; so many hold a timer; and each of these has a number and a turn below this one.
-  pub record IsSound (slots : List (Slot T V)) (len next_number : ℕ) : Type 0 where
+  -- The slots are a tournament; so many hold a timer; each of these has a number and a turn below this one; and the others are listed from this slot on.
+  pub record IsSound (slots : List (Slot T V)) (len next_number vacant : ℕ) : Type 0 where
     pub settled : IsSettledBut (helds slots) (firsts slots) 0
     pub counted : len ≡ count_by is_some (helds slots)
     pub given_out : IsGivenOut (helds slots) next_number
+    pub vacancies : ℕ
+    pub total : len + vacancies ≡ length slots
+    pub listed : IsVacantList (helds slots) (nexts slots) vacancies vacant
 
   -- The slot that is named holds the timer that comes out first.
   pub record IsFirst (q : Queue T V) (f : First T) : Type 0 where

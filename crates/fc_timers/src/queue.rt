@@ -1,5 +1,5 @@
 //! The queue.
-ghost use Rattle.std.specs.Prelude.{◌≡◌, ℕ, ◌==◌, ◌∷◌, ◌++◌, [], if◌then◌else◌, ◌+◌, ◌<◌, ◌⊎◌, ◌↔◌, IsTrue, IfSome, IfNone, OnSome, IfOk, IfErr, OnOk, OnErr, IsErr, IsSome, Some, None, count_by, is_some, length, map, slice_index_or, slice_set, option_copied};
+ghost use Rattle.std.specs.Prelude.{◌≡◌, ℕ, ◌==◌, ◌∷◌, ◌++◌, [], if◌then◌else◌, ◌+◌, ◌<◌, ◌≤◌, ◌⊎◌, ◌↔◌, IsTrue, IfSome, IfNone, OnSome, IfOk, IfErr, OnOk, OnErr, IsErr, IsOk, IsSome, Some, None, count_by, is_some, length, map, slice_index_or, slice_set, option_copied};
 ghost use Rattle.std.specs.Option.{option_map};
 ghost use Rattle.fc_base.specs.declared.try_reserve_error.TryReserveError.{TryReserveError as Error};
 ghost use Rattle.fc_timers.specs.Timers.{AreGivenOut, HasNone, IsChanged, IsEarliest, IsPopped, NoneDue, armed, newly, renewed, timer_count};
@@ -23,19 +23,20 @@ pub struct TimerQueue<T: Ord, V, A: Handle = Global> {
     len: usize,
     // The number and the turn that are given out next.
     next_number: u64,
-    // The first slot of the list of those where no timer stands; there is none where it names no slot.
+    // The first slot of the list of those where no timer stands, or a number that is no slot's.
     vacant: usize,
 }
 
 impl<T: Ord, V, A: Handle> Model for TimerQueue<T, V, A> {
     ghost use Rattle.fc_timers.specs.Timers.{Queue};
     ghost use Rattle.fc_timers.specs.Tournament.{helds, IsSound};
+    ghost use Rattle.std.specs.Prelude.{vec_capacity};
 
     ghost Value = { Queue T V };
 
-    ghost view = { λ q. record { slots = helds q.slots.items; next_number = q.next_number } };
+    ghost view = { λ q. record { slots = helds q.slots.items; next_number = q.next_number; room = vec_capacity q.slots } };
 
-    ghost invariant = { λ q. IsSound T.cmp q.slots.items q.len q.next_number };
+    ghost invariant = { λ q. IsSound T.cmp q.slots.items q.len q.next_number q.vacant };
 }
 
 impl<T: Ord, V, A: Handle> TimerQueue<T, V, A> {
@@ -44,6 +45,7 @@ impl<T: Ord, V, A: Handle> TimerQueue<T, V, A> {
         ensures none { HasNone result }
         ensures count { timer_count result ≡ 0 }
         ensures number { result.next_number ≡ 0 }
+        ensures room { result.room ≡ 0 }
     {
         TimerQueue {
             slots: Vec::new(alloc),
@@ -59,6 +61,36 @@ impl<T: Ord, V, A: Handle> TimerQueue<T, V, A> {
         ensures given_out { AreGivenOut self.now }
     {
         self.len
+    }
+
+    /// How many timers fit before the next request for memory.
+    pub fn capacity(&self) -> usize
+        ensures value { result ≡ self.now.room }
+        ensures holds_all { timer_count self.now ≤ self.now.room }
+    {
+        self.slots.capacity()
+    }
+
+    /// Makes room for so many more timers: as many insertions then take no memory, and are not refused for want of it. Where they fit as it is, it takes
+    /// no memory.
+    ///
+    /// # Errors
+    /// `AllocError` where the request was refused. The queue is then as it was.
+    pub fn try_reserve(&mut self, additional: usize) -> Result<(), TryReserveError>
+        ensures room { OnOk result (timer_count self.old + additional ≤ self.new.room) }
+        ensures timers { self.new ≡ record self.old { room = self.new.room } }
+        ensures kept { self.old.room ≤ self.new.room }
+        ensures fits { timer_count self.old + additional ≤ self.old.room → IsOk result }
+        ensures unchanged { OnErr result (self.new ≡ self.old) }
+        ensures error { IfErr result (λ e. e ≡ Error.AllocError) }
+    {
+        let vacant = self.slots.len() - self.len;
+        if additional <= vacant {
+            Ok(())
+        } else {
+            self.slots.reserve(additional - vacant)?;
+            Ok(())
+        }
     }
 
     /// Whether there is no timer.
@@ -119,12 +151,15 @@ impl<T: Ord + Copy + Drop, V: Drop, A: Handle> TimerQueue<T, V, A> {
     /// it ever held.
     ///
     /// # Errors
-    /// `AllocError` where a request for memory was refused; `CapacityOverflow` where the queue gave out 2^64 - 1 turns. The queue is then as it was, and time and value come back.
+    /// `AllocError` where a request for memory was refused; `CapacityOverflow` where the queue gave out 2^64 - 1 turns. The queue is then
+    /// as it was, and time and value come back.
     pub fn try_insert(&mut self, at: T, value: V) -> Result<Timer, (T, V, TryReserveError)>
         ensures inserted { IfOk result (λ timer. IsChanged self.old self.new timer (Some (newly self.old at value))) }
         ensures fresh { IfOk result (λ timer. armed self.old timer ≡ None) }
         ensures count { OnOk result (timer_count self.new ≡ timer_count self.old + 1) }
         ensures number { OnOk result (self.new.next_number ≡ self.old.next_number + 1) }
+        ensures room { self.old.room ≤ self.new.room }
+        ensures fits { timer_count self.old < self.old.room → self.old.next_number < u64.MAX → IsOk result }
         ensures unchanged { OnErr result (self.new ≡ self.old) }
         ensures back { IfErr result (λ e. (e.0 ≡ at) × (e.1 ≡ value)) }
         ensures error { IfErr result (λ e. e.2 ≡ (if self.old.next_number == u64.MAX then Error.CapacityOverflow else Error.AllocError)) }
@@ -133,48 +168,36 @@ impl<T: Ord + Copy + Drop, V: Drop, A: Handle> TimerQueue<T, V, A> {
         if self.next_number == u64::MAX {
             return Err((at, value, TryReserveError::CapacityOverflow));
         }
-        match self.vacant_slot() {
-            Ok(slot) => Ok(self.fill(slot, at, value)),
+        match self.make_vacancy() {
+            Ok(()) => Ok(self.fill(at, value)),
             Err(error) => Err((at, value, error)),
         }
     }
 
-    // A slot where no timer stands, which is new where the list of those has none.
-    fn vacant_slot(&mut self) -> Result<usize, TryReserveError>
+    // Has a slot where no timer stands. It asks for memory only where one stands in each.
+    fn make_vacancy(&mut self) -> Result<(), TryReserveError>
+        ensures vacancy { OnOk result (timer_count self.new < length self.new.slots) }
         ensures slots { (k : ℕ) → slice_index_or self.new.slots k None ≡ slice_index_or self.old.slots k None }
         ensures count { timer_count self.new ≡ timer_count self.old }
         ensures number { self.new.next_number ≡ self.old.next_number }
-        ensures within { IfOk result (λ slot. (slot < length self.new.slots) × (slice_index_or self.new.slots slot None ≡ None)) }
+        ensures room { self.old.room ≤ self.new.room }
+        ensures fits { timer_count self.old < self.old.room → IsOk result }
         ensures unchanged { OnErr result (self.new ≡ self.old) }
         ensures error { IfErr result (λ e. e ≡ Error.AllocError) }
     {
-        match self.listed_slot() {
-            Some(slot) => Ok(slot),
-            None => self.add_slot(),
-        }
-    }
-
-    // The first slot of the list of those where no timer stands.
-    fn listed_slot(&self) -> Option<usize>
-        ensures within { IfSome result (λ slot. (slot < length self.now.slots) × (slice_index_or self.now.slots slot None ≡ None)) }
-    {
-        match self.slots.get(self.vacant) {
-            Some(slot) => {
-                if slot.held.is_none() {
-                    Some(self.vacant)
-                } else {
-                    None
-                }
-            }
-            None => None,
+        if self.len < self.slots.len() {
+            Ok(())
+        } else {
+            self.add_slot()
         }
     }
 
     // Adds a slot, where no timer stands.
-    fn add_slot(&mut self) -> Result<usize, TryReserveError>
+    fn add_slot(&mut self) -> Result<(), TryReserveError>
         ensures slots { OnOk result (self.new.slots ≡ self.old.slots ++ None ∷ []) }
         ensures number { self.new.next_number ≡ self.old.next_number }
-        ensures slot { IfOk result (λ slot. slot ≡ length self.old.slots) }
+        ensures room { self.old.room ≤ self.new.room }
+        ensures fits { length self.old.slots < self.old.room → IsOk result }
         ensures unchanged { OnErr result (self.new ≡ self.old) }
         ensures error { IfErr result (λ e. e ≡ Error.AllocError) }
     {
@@ -183,20 +206,24 @@ impl<T: Ord + Copy + Drop, V: Drop, A: Handle> TimerQueue<T, V, A> {
         self.slots.push_reserved(Slot {
             held: None,
             first: None,
-            next_vacant: usize::MAX,
+            next_vacant: self.vacant,
         });
-        Ok(slot)
+        self.vacant = slot;
+        Ok(())
     }
 
-    // Puts a timer into a slot where none stands.
-    fn fill(&mut self, slot: usize, at: T, value: V) -> Timer
+    // Puts a timer into the first slot of the list of those where none stands.
+    fn fill(&mut self, at: T, value: V) -> Timer
         requires number { self.old.next_number < u64.MAX }
-        requires within { slot < length self.old.slots }
-        requires vacant { slice_index_or self.old.slots slot None ≡ None }
-        ensures slots { self.new.slots ≡ slice_set self.old.slots slot (Some (newly self.old at value)) }
+        requires vacancy { timer_count self.old < length self.old.slots }
+        ensures within { result.slot < length self.old.slots }
+        ensures vacant { slice_index_or self.old.slots result.slot None ≡ None }
+        ensures slots { self.new.slots ≡ slice_set self.old.slots result.slot (Some (newly self.old at value)) }
         ensures number { self.new.next_number ≡ self.old.next_number + 1 }
-        ensures timer { (result.slot ≡ slot) × (result.number ≡ self.old.next_number) }
+        ensures timer { result.number ≡ self.old.next_number }
+        ensures room { self.new.room ≡ self.old.room }
     {
+        let slot = self.vacant;
         let number = self.next_number;
         self.vacant = self.slots[slot].next_vacant;
         let armed = Armed {
@@ -218,6 +245,7 @@ impl<T: Ord + Copy + Drop, V: Drop, A: Handle> TimerQueue<T, V, A> {
         ensures unchanged { IfNone result (self.new ≡ self.old) }
         ensures count { OnSome result (timer_count self.new + 1 ≡ timer_count self.old) }
         ensures number { self.new.next_number ≡ self.old.next_number }
+        ensures room { self.new.room ≡ self.old.room }
     {
         match self.get(timer) {
             Some(_armed) => self.take(timer.slot),
@@ -231,6 +259,7 @@ impl<T: Ord + Copy + Drop, V: Drop, A: Handle> TimerQueue<T, V, A> {
         ensures answer { result ≡ option_map (λ a. (a.at, a.value)) (slice_index_or self.old.slots slot None) }
         ensures slots { self.new.slots ≡ slice_set self.old.slots slot None }
         ensures number { self.new.next_number ≡ self.old.next_number }
+        ensures room { self.new.room ≡ self.old.room }
     {
         let armed = vacate(self.slots.as_mut_slice(), slot, self.vacant)?;
         self.vacant = slot;
@@ -247,6 +276,7 @@ impl<T: Ord + Copy + Drop, V: Drop, A: Handle> TimerQueue<T, V, A> {
         ensures none { IfNone result ((armed self.old timer ≡ None) ⊎ (self.old.next_number ≡ u64.MAX)) }
         ensures unchanged { IfNone result (self.new ≡ self.old) }
         ensures count { timer_count self.new ≡ timer_count self.old }
+        ensures room { self.new.room ≡ self.old.room }
     {
         let was = self.get(timer)?.at;
         if self.next_number == u64::MAX {
@@ -262,6 +292,7 @@ impl<T: Ord + Copy + Drop, V: Drop, A: Handle> TimerQueue<T, V, A> {
         requires held { IsSome (slice_index_or self.old.slots slot None) }
         ensures slots { self.new.slots ≡ slice_set self.old.slots slot (renewed at self.old.next_number (slice_index_or self.old.slots slot None)) }
         ensures number { self.new.next_number ≡ self.old.next_number + 1 }
+        ensures room { self.new.room ≡ self.old.room }
     {
         retime(self.slots.as_mut_slice(), slot, at, self.next_number);
         self.next_number += 1;
@@ -275,6 +306,7 @@ impl<T: Ord + Copy + Drop, V: Drop, A: Handle> TimerQueue<T, V, A> {
         ensures unchanged { IfNone result (self.new ≡ self.old) }
         ensures count { OnSome result (timer_count self.new + 1 ≡ timer_count self.old) }
         ensures number { self.new.next_number ≡ self.old.next_number }
+        ensures room { self.new.room ≡ self.old.room }
     {
         let first = *self.first()?;
         if first.at.cmp(now).is_gt() {

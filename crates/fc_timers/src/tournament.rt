@@ -1,7 +1,7 @@
 //! The tournament among the slots: each names the first to be due of its own timer and of those below it, so the slot at the top names
 //! the first of all. A change of one slot is settled there and at each slot above it.
 ghost use Rattle.std.specs.Prelude.{◌≡◌, ◌+◌, ◌*◌, ◌<◌, Some, None, length, slice_index_or, slice_set};
-ghost use Rattle.fc_timers.specs.Tournament.{IsSettledBut, earlier as first_of, first_from, firsts, helds, own_first as own};
+ghost use Rattle.fc_timers.specs.Tournament.{IsSettledBut, earlier as first_of, first_from, firsts, helds, nexts, own_first as own};
 ghost use Rattle.fc_timers.specs.Timers.{renewed};
 
 use crate::order::earlier;
@@ -49,6 +49,7 @@ fn first_below<T: Ord + Copy, V>(slots: &[Slot<T, V>], at: usize) -> Option<Firs
 fn settle<T: Ord + Copy, V>(slots: &mut [Slot<T, V>], at: usize)
     requires { at < length slots.old }
     ensures held { helds slots.new ≡ helds slots.old }
+    ensures next { nexts slots.new ≡ nexts slots.old }
     ensures first { firsts slots.new ≡ slice_set (firsts slots.old) at (first_from T.cmp (helds slots.old) (firsts slots.old) at) }
 {
     let first = earlier(own_first(slots, at), first_below(slots, at));
@@ -60,6 +61,7 @@ fn settle_up<T: Ord + Copy, V>(slots: &mut [Slot<T, V>], slot: usize)
     requires within { slot < length slots.old }
     requires others { IsSettledBut T.cmp (helds slots.old) (firsts slots.old) (slot + 1) }
     ensures held { helds slots.new ≡ helds slots.old }
+    ensures next { nexts slots.new ≡ nexts slots.old }
     ensures settled { IsSettledBut T.cmp (helds slots.new) (firsts slots.new) 0 }
 {
     let mut end = slot + 1;
@@ -79,6 +81,7 @@ pub(crate) fn change<T: Ord + Copy, V>(
     requires settled { IsSettledBut T.cmp (helds slots.old) (firsts slots.old) 0 }
     ensures was { result ≡ slice_index_or (helds slots.old) slot None }
     ensures held { helds slots.new ≡ slice_set (helds slots.old) slot held }
+    ensures next { nexts slots.new ≡ nexts slots.old }
     ensures settled { IsSettledBut T.cmp (helds slots.new) (firsts slots.new) 0 }
 {
     let was = mem::replace(&mut slots[slot].held, held);
@@ -96,6 +99,7 @@ pub(crate) fn vacate<T: Ord + Copy, V>(
     requires settled { IsSettledBut T.cmp (helds slots.old) (firsts slots.old) 0 }
     ensures was { result ≡ slice_index_or (helds slots.old) slot None }
     ensures held { helds slots.new ≡ slice_set (helds slots.old) slot None }
+    ensures next { nexts slots.new ≡ slice_set (nexts slots.old) slot next_vacant }
     ensures settled { IsSettledBut T.cmp (helds slots.new) (firsts slots.new) 0 }
 {
     let was = change(slots, slot, None);
@@ -107,6 +111,7 @@ pub(crate) fn vacate<T: Ord + Copy, V>(
 fn write_time<T: Copy, V>(slots: &mut [Slot<T, V>], slot: usize, at: T, turn: u64)
     requires { slot < length slots.old }
     ensures held { helds slots.new ≡ slice_set (helds slots.old) slot (renewed at turn (slice_index_or (helds slots.old) slot None)) }
+    ensures next { nexts slots.new ≡ nexts slots.old }
     ensures first { firsts slots.new ≡ firsts slots.old }
 {
     if let Some(armed) = &mut slots[slot].held {
@@ -120,6 +125,7 @@ pub(crate) fn retime<T: Ord + Copy, V>(slots: &mut [Slot<T, V>], slot: usize, at
     requires within { slot < length slots.old }
     requires settled { IsSettledBut T.cmp (helds slots.old) (firsts slots.old) 0 }
     ensures held { helds slots.new ≡ slice_set (helds slots.old) slot (renewed at turn (slice_index_or (helds slots.old) slot None)) }
+    ensures next { nexts slots.new ≡ nexts slots.old }
     ensures settled { IsSettledBut T.cmp (helds slots.new) (firsts slots.new) 0 }
 {
     write_time(slots, slot, at, turn);

@@ -11,3 +11,6 @@ pub returns-clause-first : goal.returns-clause-first
 returns-clause-first g c =
     map-set (λ s. s.first) c.args.slots.now c.args.at _
     ∙ ap (set (firsts c.args.slots.now) c.args.at) (c.earlier-first.ensures ∙ (λ i. earlier g.T.Ord.cmp (c.own_first.ensures i) (c.first_below.ensures i)))
+
+pub returns-clause-next : goal.returns-clause-next
+returns-clause-next g c = map-set_same (λ s. s.next_vacant) c.args.slots.now c.args.at _ c.index-slots-at.result refl

@@ -15,3 +15,6 @@ returns-in-Some-clause-held g c =
 
 pub returns-in-Some-clause-first : goal.returns-in-Some-clause-first
 returns-in-Some-clause-first g c = map-set_same (λ s. s.first) c.args.slots.now c.args.slot _ c.index-slots-slot.result refl
+
+pub returns-in-Some-clause-next : goal.returns-in-Some-clause-next
+returns-in-Some-clause-next g c = map-set_same (λ s. s.next_vacant) c.args.slots.now c.args.slot _ c.index-slots-slot.result refl
