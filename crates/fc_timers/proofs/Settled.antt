@@ -1,5 +1,6 @@
 -- What a slot names, in a tournament and while a change of one slot is settled.
-use Rattle.std.proofs.Common.{◌≡◌, ◌≢◌, ◌⊎◌, ℕ, zero, suc, ◌+◌, ◌-◌, ◌*◌, ◌/◌, ◌<◌, ◌≤◌, Bool, true, false, if◌then◌else◌, List, length, get_or, set, Option, Some, None, refl, sym, ap, subst, ◌∙◌, inl, inr, arith}
+use Rattle.std.proofs.Common.{◌≡◌, ◌≢◌, ◌⊎◌, ℕ, zero, suc, ◌+◌, ◌-◌, ◌*◌, ◌/◌, ◌<◌, ◌≤◌, Bool, true, false}
+use Rattle.std.proofs.Common.{if◌then◌else◌, List, length, get_or, set, Option, Some, None, refl, sym, ap, subst, ◌∙◌, inl, inr, arith}
 use Rattle.std.proofs.lemmas.Bool.{cases_eq}
 use Rattle.std.proofs.lemmas.List.{map-set, get_or-set_same, get_or-set_other, get_or_past}
 use Rattle.std.proofs.Math.Seq.{map-set_same}
@@ -45,7 +46,8 @@ module _ {T : Type 0} (cmp : T → T → Ordering) where
     both (Some a) None = (due_first_itself o a.at a.turn, tt)
     both (Some a) (Some b) = by_test (due_first cmp a.at a.turn b.at b.turn) refl
       where
-        by_test : (t : Bool) → due_first cmp a.at a.turn b.at b.turn ≡ t → IsAtMost (if t then Some a else Some b) (Some a) × IsAtMost (if t then Some a else Some b) (Some b)
+        by_test : (t : Bool) → due_first cmp a.at a.turn b.at b.turn ≡ t
+            → IsAtMost (if t then Some a else Some b) (Some a) × IsAtMost (if t then Some a else Some b) (Some b)
         by_test true e = (due_first_itself o a.at a.turn, e)
         by_test false e = (due_first_turned o a.at a.turn b.at b.turn e, due_first_itself o b.at b.turn)
 
@@ -60,11 +62,13 @@ module _ {T V : Type 0} {cmp : T → T → Ordering} where
     pub unsettled_at : (k : ℕ) (h : Option (Armed T V)) → IsSettledBut cmp held first 0 → IsSettledBut cmp (set held k h) first (k + 1)
     unsettled_at k h s = record {
       settled = λ j apart. s.settled j (omega arith)
-          ∙ ap (λ x. earlier cmp (own_first j x) (earlier cmp (get_or first (2 * j + 1) None) (get_or first (2 * j + 2) None))) (sym (get_or-set_other held k j h None (omega arith)));
+          ∙ ap (λ x. earlier cmp (own_first j x) (earlier cmp (get_or first (2 * j + 1) None) (get_or first (2 * j + 2) None)))
+          (sym (get_or-set_other held k j h None (omega arith)));
     }
 
     -- Once a slot is settled, the one above it may not be, and each other is.
-    pub settled_step : (n : ℕ) → 0 < n → n ≤ length first → IsSettledBut cmp held first n → IsSettledBut cmp held (set first (n - 1) (first_from cmp held first (n - 1))) (n / 2)
+    pub settled_step : (n : ℕ) → 0 < n → n ≤ length first → IsSettledBut cmp held first n
+        → IsSettledBut cmp held (set first (n - 1) (first_from cmp held first (n - 1))) (n / 2)
     settled_step n some within s = record { settled = λ j apart. elim (cases_eq j (n - 1)) [ inl same ↦ here j same | inr other ↦ there j other apart ] }
       where
         named : Option (First T)
@@ -81,7 +85,8 @@ module _ {T V : Type 0} {cmp : T → T → Ordering} where
 
         here : (j : ℕ) → j ≡ n - 1 → IsSettled cmp held written j
         here j same =
-            subst (IsSettled cmp held written) (sym same) (get_or-set_same first (n - 1) named None (omega arith) ∙ sym (from (n - 1) (omega arith) (omega arith)))
+            subst (IsSettled cmp held written) (sym same)
+            (get_or-set_same first (n - 1) named None (omega arith) ∙ sym (from (n - 1) (omega arith) (omega arith)))
 
         there : (j : ℕ) → j ≢ n - 1 → j + 1 ≢ n / 2 → IsSettled cmp held written j
         there j other apart = kept j other ∙ s.settled j (omega arith) ∙ sym (from j (omega arith) (omega arith))
@@ -110,7 +115,8 @@ module _ {T V : Type 0} {cmp : T → T → Ordering} where
         own : (k : ℕ) → IsAtMost cmp (get_or first k None) (own_first k (get_or held k None))
         own k = subst (λ x. IsAtMost cmp x (own_first k (get_or held k None))) (sym (names k)) (both cmp o _ _).0
 
-        below : (k : ℕ) → IsAtMost cmp (get_or first k None) (get_or first (2 * k + 1) None) × IsAtMost cmp (get_or first k None) (get_or first (2 * k + 2) None)
+        below : (k : ℕ)
+            → IsAtMost cmp (get_or first k None) (get_or first (2 * k + 1) None) × IsAtMost cmp (get_or first k None) (get_or first (2 * k + 2) None)
         below k =
             let rest = earlier cmp (get_or first (2 * k + 1) None) (get_or first (2 * k + 2) None) in
             let down : IsAtMost cmp (get_or first k None) rest = subst (λ x. IsAtMost cmp x rest) (sym (names k)) (both cmp o _ _).1 in
@@ -124,10 +130,12 @@ module _ {T V : Type 0} {cmp : T → T → Ordering} where
             let half = j / 2 in
             let up = top fuel half (omega arith) in
             elim (cases_eq (suc j) (2 * half + 1)) [
-              | inl left ↦ subst (λ k. IsAtMost cmp (get_or first 0 None) (get_or first k None)) (sym left) (at_most_chained cmp o _ (get_or first half None) _ up (below half).0)
+              | inl left ↦ subst (λ k. IsAtMost cmp (get_or first 0 None) (get_or first k None)) (sym left)
+                  (at_most_chained cmp o _ (get_or first half None) _ up (below half).0)
               | inr other ↦
                   let right : 2 * half + 2 ≡ suc j = omega arith in
-                  subst (λ k. IsAtMost cmp (get_or first 0 None) (get_or first k None)) right (at_most_chained cmp o _ (get_or first half None) _ up (below half).1)
+                  subst (λ k. IsAtMost cmp (get_or first 0 None) (get_or first k None)) right
+                  (at_most_chained cmp o _ (get_or first half None) _ up (below half).1)
             ]
 
         -- The slot at the top names what is due after no timer.
@@ -135,10 +143,12 @@ module _ {T V : Type 0} {cmp : T → T → Ordering} where
         top_first k = at_most_chained cmp o _ (get_or first k None) _ (top k k (omega arith)) (own k)
 
   -- The same of the slots themselves.
-  pub unsettled_by : (slots : List (Slot T V)) (k : ℕ) (now was : Slot T V) → now.first ≡ (get_or slots k was).first → IsSettledBut cmp (helds slots) (firsts slots) 0 → IsSettledBut cmp (helds (set slots k now)) (firsts (set slots k now)) (k + 1)
+  pub unsettled_by : (slots : List (Slot T V)) (k : ℕ) (now was : Slot T V) → now.first ≡ (get_or slots k was).first
+      → IsSettledBut cmp (helds slots) (firsts slots) 0 → IsSettledBut cmp (helds (set slots k now)) (firsts (set slots k now)) (k + 1)
   unsettled_by slots k now was same s =
       rw (map-set (λ s. s.held) slots k now, map-set_same (λ s. s.first) slots k now was same) (unsettled_at (helds slots) (firsts slots) k now.held s)
 
   -- A write of neither settles nor unsettles a slot.
-  pub settled_by : (slots : List (Slot T V)) (k : ℕ) (now was : Slot T V) → now.held ≡ (get_or slots k was).held → now.first ≡ (get_or slots k was).first → IsSettledBut cmp (helds slots) (firsts slots) 0 → IsSettledBut cmp (helds (set slots k now)) (firsts (set slots k now)) 0
+  pub settled_by : (slots : List (Slot T V)) (k : ℕ) (now was : Slot T V) → now.held ≡ (get_or slots k was).held → now.first ≡ (get_or slots k was).first
+      → IsSettledBut cmp (helds slots) (firsts slots) 0 → IsSettledBut cmp (helds (set slots k now)) (firsts (set slots k now)) 0
   settled_by slots k now was held first s = rw (map-set_same (λ s. s.held) slots k now was held, map-set_same (λ s. s.first) slots k now was first) s

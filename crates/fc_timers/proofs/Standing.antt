@@ -1,5 +1,6 @@
 -- What stands at a timer, and how it changes where one slot changes.
-use Rattle.std.proofs.Common.{◌≡◌, ◌≢◌, ℕ, zero, suc, ◌<◌, ◌≤◌, Bool, true, false, if◌then◌else◌, List, [], ◌∷◌, ◌++◌, length, get_or, set, map, Bor, count_by, Option, Some, None, is_some, refl, sym, ap, subst, ◌∙◌, inl, inr, arith}
+use Rattle.std.proofs.Common.{◌≡◌, ◌≢◌, ℕ, zero, suc, ◌<◌, ◌≤◌, Bool, true, false, if◌then◌else◌, List, [], ◌∷◌, ◌++◌, length}
+use Rattle.std.proofs.Common.{get_or, set, map, Bor, count_by, Option, Some, None, is_some, refl, sym, ap, subst, ◌∙◌, inl, inr, arith}
 use Rattle.std.proofs.lemmas.Bool.{cases_eq}
 use Rattle.std.proofs.lemmas.List.{get_or-set_same, get_or-set_other, get_or_past, get_or-map, length-map}
 use Rattle.std.proofs.lemmas.Cmp.{upto}
@@ -68,7 +69,8 @@ module _ {T V : Type 0} where
   number_found n h a e same = sym (own_number n (Some a) (some_numbered n (Some a) a refl same)) ∙ ap (with_number n) e
 
   pub number_missed : (n : ℕ) (h : Option (Armed T V)) (a : Armed T V) → Some a ≡ h → a.number ≢ n → None ≡ with_number n h
-  number_missed n h a e other = sym (other_number a.number n (Some a) (some_numbered a.number (Some a) a refl refl) (λ same. other (sym same))) ∙ ap (with_number n) e
+  number_missed n h a e other = sym (other_number a.number n (Some a) (some_numbered a.number (Some a) a refl refl) (λ same. other (sym same))) ∙ ap
+      (with_number n) e
 
   -- A timer that is in the queue stands in its slot.
   pub in_slot : (q : Queue T V) (timer : Timer) (a : Armed T V) → armed q timer ≡ Some a → (get_or q.slots timer.slot None ≡ Some a) × (a.number ≡ timer.number)
@@ -79,9 +81,12 @@ module _ {T V : Type 0} where
   at_slot q k a e = ap (with_number a.number) e ∙ own_number a.number (Some a) (λ b same. let whole : a ≡ b = cc in ap (λ x. x.number) (sym whole))
 
   -- A slot that has another timer of the same number, or none, changes what stands at that timer alone.
-  pub slot_changed : (old new : Queue T V) (timer : Timer) (now : Option (Armed T V)) → timer.slot < length old.slots → new.slots ≡ set old.slots timer.slot now → HasNumber timer.number now → HasNumber timer.number (get_or old.slots timer.slot None) → IsChanged old new timer now
+  pub slot_changed : (old new : Queue T V) (timer : Timer) (now : Option (Armed T V)) → timer.slot < length old.slots
+      → new.slots ≡ set old.slots timer.slot now → HasNumber timer.number now → HasNumber timer.number (get_or old.slots timer.slot None)
+      → IsChanged old new timer now
   slot_changed old new timer now within written after before = record {
-    here = ap (λ s. with_number timer.number (get_or s timer.slot None)) written ∙ ap (with_number timer.number) (get_or-set_same old.slots timer.slot now None within) ∙ own_number timer.number now after;
+    here = ap (λ s. with_number timer.number (get_or s timer.slot None)) written ∙ ap (with_number timer.number)
+        (get_or-set_same old.slots timer.slot now None within) ∙ own_number timer.number now after;
     others = λ other differs. ap (λ s. with_number other.number (get_or s other.slot None)) written ∙ elim (cases_eq other.slot timer.slot) [
       | inl same ↦
           let apart : other.number ≢ timer.number = λ e. differs (λ i. record { slot = same i; number = e i }) in
@@ -93,7 +98,8 @@ module _ {T V : Type 0} where
   }
 
   -- Numbers and turns stay below the next one where a slot changes.
-  pub given_out_set : (h : List (Option (Armed T V))) (k n m : ℕ) (x : Option (Armed T V)) → k < length h → n ≤ m → ((a : Armed T V) → x ≡ Some a → (a.number < m) × (a.turn < m)) → IsGivenOut h n → IsGivenOut (set h k x) m
+  pub given_out_set : (h : List (Option (Armed T V))) (k n m : ℕ) (x : Option (Armed T V)) → k < length h → n ≤ m
+      → ((a : Armed T V) → x ≡ Some a → (a.number < m) × (a.turn < m)) → IsGivenOut h n → IsGivenOut (set h k x) m
   given_out_set h k n m x within more new old = record {
     below = λ j a e. elim (cases_eq j k) [
       | inl same ↦ new a (sym (get_or-set_same h k x None within) ∙ ap (λ i. get_or (set h k x) i None) (sym same) ∙ e)
@@ -101,17 +107,10 @@ module _ {T V : Type 0} where
     ];
   }
 
-  pub given_out_of : (q : Queue T V) → IsGivenOut q.slots q.next_number → AreGivenOut q
-  given_out_of q h = record { turns = λ timer a e. (h.below timer.slot a (in_slot q timer a e).0).1 }
-
   pub count_none : (h : List (Option (Armed T V))) → ((k : ℕ) → get_or h k None ≡ None) → count_by is_some h ≡ 0
   count_none [] none = refl
   count_none (None ∷ h) none = count_none h (λ k. none (suc k))
   count_none (Some a ∷ h) none = let first : Some a ≡ None = none 0 in absurd cc
-
-pub none_from_test : {X : Type 0} (h : Option X) → is_some h ≡ false → h ≡ None
-none_from_test None e = refl
-none_from_test (Some x) e = absurd cc
 
 pub get_or_push_none : {X : Type 0} (h : List (Option X)) (k : ℕ) → get_or (h ++ None ∷ []) k None ≡ get_or h k None
 get_or_push_none [] zero = refl
@@ -159,7 +158,8 @@ module _ {T V : Type 0} {cmp : T → T → Ordering} (o : IsTotalOrder cmp) wher
         by_held (Some a) held e =
             let whole : record { at = a.at; turn = a.turn; slot = f.slot } ≡ f = cc in
             let first_of : (k : ℕ) (b : Armed T V) → get_or q.slots k None ≡ Some b → precedes cmp a b ≡ true =
-            λ k b there. subst (λ x. IsAtMost cmp x (own_first k (Some b))) (named ∙ sym e) (subst (λ h. IsAtMost cmp (get_or first 0 None) (own_first k h)) there (top_first q.slots first s o k)) in
+            λ k b there. subst (λ x. IsAtMost cmp x (own_first k (Some b))) (named ∙ sym e)
+            (subst (λ h. IsAtMost cmp (get_or first 0 None) (own_first k h)) there (top_first q.slots first s o k)) in
             record {
               armed = a;
               held = held;

@@ -22,7 +22,8 @@ module _ {T : Type 0} {cmp : T → T → Ordering} (o : IsTotalOrder cmp) where
   due_first_turned s m t n h =
       turned (cmp t s) (leb m n) (leb n m) (λ later. le-leb n m (omega (arith, leb-false m n later))) (sym (ap (λ r. by_turn r (leb m n)) (o.antisymm s t)) ∙ h)
 
-  chained : (s t u : T) (m n p : ℕ) (r q : Ordering) → cmp s t ≡ r → cmp t u ≡ q → by_turn r (leb m n) ≡ true → by_turn q (leb n p) ≡ true → by_turn (cmp s u) (leb m p) ≡ true
+  chained : (s t u : T) (m n p : ℕ) (r q : Ordering) → cmp s t ≡ r → cmp t u ≡ q → by_turn r (leb m n) ≡ true → by_turn q (leb n p) ≡ true
+      → by_turn (cmp s u) (leb m p) ≡ true
   chained s t u m n p Less Less e f h k = ap (λ x. by_turn x (leb m p)) (o.trans s t u e f)
   chained s t u m n p Less Equal e f h k = ap (λ x. by_turn x (leb m p)) (sym (alike_right o t u s f) ∙ e)
   chained s t u m n p Less Greater e f h k = absurd cc
@@ -31,5 +32,6 @@ module _ {T : Type 0} {cmp : T → T → Ordering} (o : IsTotalOrder cmp) where
   chained s t u m n p Equal Greater e f h k = absurd cc
   chained s t u m n p Greater q e f h k = absurd cc
 
-  pub due_first_chained : (s : T) (m : ℕ) (t : T) (n : ℕ) (u : T) (p : ℕ) → due_first cmp s m t n ≡ true → due_first cmp t n u p ≡ true → due_first cmp s m u p ≡ true
+  pub due_first_chained : (s : T) (m : ℕ) (t : T) (n : ℕ) (u : T) (p : ℕ) → due_first cmp s m t n ≡ true → due_first cmp t n u p ≡ true
+      → due_first cmp s m u p ≡ true
   due_first_chained s m t n u p h k = chained s t u m n p (cmp s t) (cmp t u) refl refl h k

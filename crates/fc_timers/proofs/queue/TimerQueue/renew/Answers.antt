@@ -19,4 +19,5 @@ invariant_of-self g c =
     ∙ ap (λ h. set (helds slots) c.args.slot (renewed c.args.at next h)) held in
     let named : nexts c.retime.new.slots ≡ nexts slots = c.retime.ensures.next ∙ ap nexts c.as_mut_slice.ensures.value in
     rw (with_items_is c.self.inside.slots c.retime.new.slots (omega arith))
-    (sound_renewed slots c.retime.new.slots c.args.slot c.self.inside.len next c.self.inside.vacant within c.self.invariant c.retime.ensures.settled old.0 new held written named refl refl)
+    (sound_renewed slots c.retime.new.slots c.args.slot c.self.inside.len next c.self.inside.vacant within
+    c.self.invariant c.retime.ensures.settled old.0 new held written named refl refl)

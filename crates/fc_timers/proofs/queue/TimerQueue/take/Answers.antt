@@ -5,7 +5,8 @@ use Rattle.fc_timers.proofs.Kept.{sound_emptied, within_slot}
 use Rattle.fc_timers.proofs.queue.TimerQueue.take.Given as given
 use Rattle.fc_timers.proofs.queue.TimerQueue.take.Goals as goal
 
-kept : (g : given.Over) (c : goal.After-self-2-1 g) → (1 ≤ c.self.inside.len) × IsSound g.T.Ord.cmp c.vacate.new.slots (c.self.inside.len - 1) c.self.inside.next_number c.args.slot
+kept : (g : given.Over) (c : goal.After-self-2-1 g)
+    → (1 ≤ c.self.inside.len) × IsSound g.T.Ord.cmp c.vacate.new.slots (c.self.inside.len - 1) c.self.inside.next_number c.args.slot
 kept g c =
     let slots = c.self.inside.slots.items in
     let held : get_or (helds slots) c.args.slot None ≡ Some c.in_ok-armed.armed =
@@ -15,7 +16,8 @@ kept g c =
     c.vacate.ensures.held ∙ ap (λ l. set (helds l) c.args.slot None) c.as_mut_slice.ensures.value in
     let named : nexts c.vacate.new.slots ≡ set (nexts slots) c.args.slot c.self.inside.vacant =
     c.vacate.ensures.next ∙ ap (λ l. set (nexts l) c.args.slot c.self.inside.vacant) c.as_mut_slice.ensures.value in
-    sound_emptied slots c.vacate.new.slots c.args.slot c.self.inside.len c.self.inside.next_number c.self.inside.vacant within c.self.invariant c.vacate.ensures.settled c.in_ok-armed.armed held written
+    sound_emptied slots c.vacate.new.slots c.args.slot c.self.inside.len c.self.inside.next_number c.self.inside.vacant within
+    c.self.invariant c.vacate.ensures.settled c.in_ok-armed.armed held written
     named
 
 pub overflow_sub-self : goal.overflow_sub-self
