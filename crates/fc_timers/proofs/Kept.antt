@@ -109,6 +109,10 @@ module _ {T V : Type 0} {cmp : T → T → Ordering} (slots : List (Slot T V)) (
       by_count zero total listed = absurd (omega arith)
       by_count (suc m) total listed = (m, total, listed)
 
+  pub asked_vacancy : count_by is_some (helds slots) < length (helds slots)
+      → (m : ℕ) × (len + suc m ≡ length slots) × IsVacantList (helds slots) (nexts slots) (suc m) vacant
+  asked_vacancy asked = first_vacancy (omega (arith, asked, sound.counted, length-map slots (λ s. s.held)))
+
   -- A vacant slot behind the others changes nothing else.
   pub sound_pushed : (last : Slot T V) → last.held ≡ None → last.first ≡ None → last.next_vacant ≡ vacant → (at : ℕ) → at ≡ length slots
       → IsSound cmp (slots ++ last ∷ []) len n at

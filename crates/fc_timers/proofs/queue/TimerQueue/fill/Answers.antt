@@ -1,32 +1,29 @@
-use Rattle.std.proofs.Common.{◌≡◌, ◌+◌, ◌<◌, length, get_or, set, count_by, is_some, Some, None, refl, sym, ap, subst, ◌∙◌, arith}
+use Rattle.std.proofs.Common.{◌≡◌, ◌+◌, ◌<◌, length, get_or, set, Some, refl, sym, ap, subst, ◌∙◌, arith}
 use Rattle.std.proofs.lemmas.List.{get_or-map, length-map, with_items_is}
 use Rattle.fc_timers.specs.declared.timer.Armed.{Armed}
 use Rattle.fc_timers.specs.Tournament.{helds, nexts, IsSound}
-use Rattle.fc_timers.proofs.Kept.{sound_filled, first_vacancy}
+use Rattle.fc_timers.proofs.Kept.{sound_filled, asked_vacancy}
 use Rattle.fc_timers.proofs.queue.TimerQueue.fill.Goals as goal
 
 pub index-requires : goal.index-requires
 index-requires g c =
     let slots = c.self.inside.slots.items in
-    let asked : count_by is_some (helds slots) < length (helds slots) = rw (← c.self.view_is) at c.requires.vacancy in
-    let fewer : c.self.inside.len < length slots = omega (arith, c.self.invariant.counted, length-map slots (λ s. s.held)) in
-    let free = first_vacancy slots _ _ _ c.self.invariant fewer in
+    let asked = rw (← c.self.view_is) at c.requires.vacancy in
+    let free = asked_vacancy _ _ _ _ c.self.invariant asked in
     omega (arith, length-map slots (λ s. s.held), free.2.0)
 
 pub change-requires-clause-within : goal.change-requires-clause-within
 change-requires-clause-within g c =
     let slots = c.self.inside.slots.items in
-    let asked : count_by is_some (helds slots) < length (helds slots) = rw (← c.self.view_is) at c.requires.vacancy in
-    let fewer : c.self.inside.len < length slots = omega (arith, c.self.invariant.counted, length-map slots (λ s. s.held)) in
-    let free = first_vacancy slots _ _ _ c.self.invariant fewer in
+    let asked = rw (← c.self.view_is) at c.requires.vacancy in
+    let free = asked_vacancy _ _ _ _ c.self.invariant asked in
     omega (arith, length-map slots (λ s. s.held), free.2.0, ap length c.as_mut_slice.ensures.value)
 
 pub invariant_of-self : goal.invariant_of-self
 invariant_of-self g c =
     let slots = c.self.inside.slots.items in
-    let asked : count_by is_some (helds slots) < length (helds slots) = rw (← c.self.view_is) at c.requires.vacancy in
-    let fewer : c.self.inside.len < length slots = omega (arith, c.self.invariant.counted, length-map slots (λ s. s.held)) in
-    let free = first_vacancy slots _ _ _ c.self.invariant fewer in
+    let asked = rw (← c.self.view_is) at c.requires.vacancy in
+    let free = asked_vacancy _ _ _ _ c.self.invariant asked in
     let now = c.change.new.slots in
     let next = c.self.inside.next_number in
     let slot = c.self.inside.vacant in
@@ -44,15 +41,13 @@ invariant_of-self g c =
 pub returns-clause-within : goal.returns-clause-within
 returns-clause-within g c =
     let slots = c.self.inside.slots.items in
-    let asked : count_by is_some (helds slots) < length (helds slots) = rw (← c.self.view_is) at c.requires.vacancy in
-    let fewer : c.self.inside.len < length slots = omega (arith, c.self.invariant.counted, length-map slots (λ s. s.held)) in
-    let free = first_vacancy slots _ _ _ c.self.invariant fewer in
+    let asked = rw (← c.self.view_is) at c.requires.vacancy in
+    let free = asked_vacancy _ _ _ _ c.self.invariant asked in
     rw (← c.self.view_is) free.2.0
 
 pub returns-clause-vacant : goal.returns-clause-vacant
 returns-clause-vacant g c =
     let slots = c.self.inside.slots.items in
-    let asked : count_by is_some (helds slots) < length (helds slots) = rw (← c.self.view_is) at c.requires.vacancy in
-    let fewer : c.self.inside.len < length slots = omega (arith, c.self.invariant.counted, length-map slots (λ s. s.held)) in
-    let free = first_vacancy slots _ _ _ c.self.invariant fewer in
+    let asked = rw (← c.self.view_is) at c.requires.vacancy in
+    let free = asked_vacancy _ _ _ _ c.self.invariant asked in
     rw (← c.self.view_is) free.2.1
