@@ -42,7 +42,7 @@ fn fill(alloc: Global, queue: &mut Boxes, count: u64) -> (u64, bool) {
     (filled, true)
 }
 
-// The sweep refuses each request in turn: of the values, and of the slots, which are 4 and then 8.
+// Each request may be refused: of the values, and of the slots, which are 4 and then 8.
 #[test]
 fn a_refused_insertion_leaves_the_queue(rt: HostRuntime) -> Result<(), Fail> {
     let mut queue: Boxes = TimerQueue::new(rt.alloc());
@@ -69,5 +69,18 @@ fn a_left_slot_takes_no_memory(rt: HostRuntime) -> Result<(), Fail> {
         assert!(rt; queue.pop_due(&i) == Some((i - 3, i - 3)));
         assert!(rt; queue.try_insert(i, i).is_ok());
     }
+    Ok(())
+}
+
+// Room that is made ahead is for so many insertions.
+#[test]
+fn room_is_made_for_so_many(rt: HostRuntime) -> Result<(), Fail> {
+    let mut queue: TimerQueue<u64, u64> = TimerQueue::new(rt.alloc());
+    queue.try_reserve(3)?;
+    assert!(rt; queue.capacity() >= 3 && queue.is_empty());
+    for at in 0..3u64 {
+        assert!(rt; queue.try_insert(at, at).is_ok());
+    }
+    assert!(rt; queue.len() == 3);
     Ok(())
 }
