@@ -1,5 +1,5 @@
 -- What stands at a timer, and how it changes where one slot changes.
-use Rattle.std.proofs.Common.{◌≡◌, ◌≢◌, ℕ, zero, suc, ◌<◌, ◌≤◌, Bool, true, false, List, [], ◌∷◌, ◌++◌, length}
+use Rattle.std.proofs.Common.{◌≡◌, ◌≢◌, ℕ, zero, suc, ◌<◌, ◌≤◌, Bool, true, false, if◌then◌else◌, List, [], ◌∷◌, ◌++◌, length}
 use Rattle.std.proofs.Common.{get_or, set, map, Bor, count_by, Option, Some, None, is_some, refl, sym, ap, subst, ◌∙◌, inl, inr, arith}
 use Rattle.std.proofs.lemmas.Bool.{cases_eq}
 use Rattle.std.proofs.lemmas.List.{get_or-set_same, get_or-set_other, get_or_past, get_or-map, length-map}
@@ -15,7 +15,7 @@ use Rattle.std.specs.declared.cmp.Ordering.TheVariants.{Less, Equal, Greater}
 use Rattle.fc_timers.specs.declared.timer.Timer.{Timer}
 use Rattle.fc_timers.specs.declared.timer.Armed.{Armed}
 use Rattle.fc_timers.specs.declared.slot.First.{First}
-use Rattle.fc_timers.specs.Timers.{Queue, armed, with_number, by_turn, precedes, timer_count, HasNone, IsChanged}
+use Rattle.fc_timers.specs.Timers.{Queue, armed, with_number, by_turn, precedes, timer_count, AreGivenOut, HasNone, IsChanged}
 use Rattle.fc_timers.specs.Tournament.{own_first, IsSettledBut, IsGivenOut, IsFirst}
 use Rattle.fc_timers.proofs.Settled.{IsAtMost, stands, top_first}
 
