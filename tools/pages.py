@@ -248,7 +248,7 @@ def parameters(line):
     return ", ".join(names)
 
 
-BACK = {"K, V": "the key and the value come back", "K": "the key comes back", "V": "the value comes back", "T": "the item comes back", "K, V, L, W": "all four come back"}
+BACK = {"K, V": "the key and the value come back", "T, V": "the time and the value come back", "K": "the key comes back", "V": "the value comes back", "T": "the item comes back", "K, V, L, W": "all four come back"}
 
 
 def comes_back(line):

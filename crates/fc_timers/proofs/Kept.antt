@@ -1,0 +1,187 @@
+-- A queue stays sound where one slot changes, and where a slot is added.
+use Rattle.std.proofs.Common.{◌≡◌, ℕ, zero, suc, ◌+◌, ◌-◌, ◌*◌, ◌^◌, ◌<◌, ◌≤◌, cond, List, [], ◌∷◌, ◌++◌}
+use Rattle.std.proofs.Common.{length, get_or, set, count_by, Option, Some, None, is_some, IsSome, false, refl, sym, ap, subst, ◌∙◌, arith}
+use Rattle.std.proofs.lemmas.List.{length-map, length-set, length_push, map_push}
+use Rattle.std.proofs.lemmas.List.Sums.{sum_by-set, sum_by_push}
+use Rattle.std.specs.Option.{IfSome, option_map}
+use Rattle.std.specs.Ordering.{is_gt}
+use Rattle.std.specs.declared.cmp.Ordering.{Ordering}
+use Rattle.fc_timers.specs.declared.timer.Timer.{Timer}
+use Rattle.fc_timers.specs.declared.timer.Armed.{Armed}
+use Rattle.fc_timers.specs.declared.slot.First.{First}
+use Rattle.fc_timers.specs.declared.slot.Slot.{Slot}
+use Rattle.fc_timers.specs.Timers.{Queue, armed, renewed, timer_count, IsChanged, IsPopped}
+use Rattle.fc_timers.specs.Tournament.{helds, firsts, nexts, own_first, earlier, IsSettledBut, IsFirst, IsGivenOut, IsSound, IsVacantList}
+use Rattle.fc_timers.proofs.Listed.{listed_ahead, listed_as, listed_new, listed_rest, listed_still}
+use Rattle.fc_timers.proofs.Standing.{given_out_set, get_or_push_none, in_slot, slot_changed, none_numbered, not_later, some_numbered}
+
+abbrev one : {X : Type 0} → Option X → ℕ
+one o = cond (is_some o) 1 0
+
+module _ {T V : Type 0} (h : List (Option (Armed T V))) (k : ℕ) (within : k < length h) where
+  pub count_filled : (a : Armed T V) → get_or h k None ≡ None → count_by is_some (set h k (Some a)) ≡ count_by is_some h + 1
+  count_filled a was =
+      let counted = sum_by-set one h k (Some a) None within in
+      let none : one (get_or h k None) ≡ 0 = ap one was in
+      omega arith
+
+  pub count_emptied : (a : Armed T V) → get_or h k None ≡ Some a → count_by is_some (set h k None) + 1 ≡ count_by is_some h
+  count_emptied a was =
+      let counted = sum_by-set one h k None None within in
+      let there : one (get_or h k None) ≡ 1 = ap one was in
+      omega arith
+
+  pub count_renewed : (a b : Armed T V) → get_or h k None ≡ Some a → count_by is_some (set h k (Some b)) ≡ count_by is_some h
+  count_renewed a b was =
+      let counted = sum_by-set one h k (Some b) None within in
+      let there : one (get_or h k None) ≡ 1 = ap one was in
+      omega arith
+
+-- The lists of the slots are as long as the slots.
+lengths : {T V : Type 0} (slots : List (Slot T V)) → (length (helds slots) ≡ length slots) × (length (nexts slots) ≡ length slots)
+lengths slots = (length-map slots (λ s. s.held), length-map slots (λ s. s.next_vacant))
+
+module _ {T V : Type 0} {cmp : T → T → Ordering} (slots new : List (Slot T V)) (k len n vacant : ℕ) (within : k < length slots)
+    (sound : IsSound cmp slots len n vacant) (settled : IsSettledBut cmp (helds new) (firsts new) 0) where
+  inside : k < length (helds slots)
+  inside = omega (arith, (lengths slots).0)
+
+  given_out : (x : Option (Armed T V)) (m : ℕ) → helds new ≡ set (helds slots) k x → n ≤ m → ((a : Armed T V) → x ≡ Some a → (a.number < m) × (a.turn < m))
+      → IsGivenOut (helds new) m
+  given_out x m written more below = rw written (given_out_set (helds slots) k n m x inside more below sound.given_out)
+
+  as_long : (x : Option (Armed T V)) → helds new ≡ set (helds slots) k x → length new ≡ length slots
+  as_long x written = omega (arith, (lengths slots).0, (lengths new).0, ap length written, length-set (helds slots) k x)
+
+  pub sound_filled : (a : Armed T V) (m : ℕ) → length slots < 2 ^ 64 → len + suc m ≡ length slots → IsVacantList (helds slots) (nexts slots) (suc m) k
+      → helds new ≡ set (helds slots) k (Some a) → nexts new ≡ nexts slots → a.number ≡ n → a.turn ≡ n
+      → IsSound cmp new (len + 1) (n + 1) (get_or (nexts slots) k 0)
+  sound_filled a m fits total listed written named number turn = record {
+    settled = settled;
+    counted = omega (arith, sound.counted, ap (count_by is_some) written, count_filled (helds slots) k inside a listed.1);
+    given_out = given_out (Some a) (n + 1) written (omega arith) (λ b e.
+        let same : a ≡ b = cc in
+        (omega (arith, ap (λ (x : Armed T V). x.number) same), omega (arith, ap (λ (x : Armed T V). x.turn) same)));
+    vacancies = m;
+    total = omega (arith, as_long (Some a) written);
+    listed = listed_as _ _ _ _ m _ written named (listed_rest (helds slots) (nexts slots) m k (omega (arith, (lengths slots).0)) (Some a) listed);
+  }
+
+  pub sound_emptied : (a : Armed T V) → get_or (helds slots) k None ≡ Some a → helds new ≡ set (helds slots) k None → nexts new ≡ set (nexts slots) k vacant
+      → (1 ≤ len) × IsSound cmp new (len - 1) n k
+  sound_emptied a was written named =
+      let counted = count_emptied (helds slots) k inside a was in (
+        omega (arith, sound.counted),
+        record {
+          settled = settled;
+          counted = omega (arith, sound.counted, ap (count_by is_some) written);
+          given_out = given_out None n written (omega arith) (λ b e. absurd cc);
+          vacancies = suc sound.vacancies;
+          total = omega (arith, sound.counted, sound.total, as_long None written);
+          listed = listed_as _ _ _ _ (suc sound.vacancies) k written named
+              (listed_ahead (helds slots) (nexts slots) sound.vacancies k a
+              (omega (arith, (lengths slots).0, (lengths slots).1)) inside was vacant sound.listed);
+        },
+      )
+
+  pub sound_renewed : (a b : Armed T V) → get_or (helds slots) k None ≡ Some a → helds new ≡ set (helds slots) k (Some b) → nexts new ≡ nexts slots
+      → b.number ≡ a.number → b.turn ≡ n → IsSound cmp new len (n + 1) vacant
+  sound_renewed a b was written named number turn = record {
+    settled = settled;
+    counted = omega (arith, sound.counted, ap (count_by is_some) written, count_renewed (helds slots) k inside a b was);
+    given_out = given_out (Some b) (n + 1) written (omega arith) (λ d e.
+        let same : b ≡ d = cc in
+        let below = sound.given_out.below k a was in
+        (omega (arith, ap (λ (x : Armed T V). x.number) same), omega (arith, ap (λ (x : Armed T V). x.turn) same)));
+    vacancies = sound.vacancies;
+    total = omega (arith, sound.total, as_long (Some b) written);
+    listed = listed_as _ _ _ _ sound.vacancies vacant written named
+        (listed_still (helds slots) (nexts slots) sound.vacancies k a (Some b) was vacant sound.listed);
+  }
+
+module _ {T V : Type 0} {cmp : T → T → Ordering} (slots : List (Slot T V)) (len n vacant : ℕ) (sound : IsSound cmp slots len n vacant) where
+  -- Where fewer hold a timer than there are slots, the list names one.
+  pub first_vacancy : len < length slots → (m : ℕ) × (len + suc m ≡ length slots) × IsVacantList (helds slots) (nexts slots) (suc m) vacant
+  first_vacancy fewer = by_count sound.vacancies sound.total sound.listed
+    where
+      by_count : (m : ℕ) → len + m ≡ length slots → IsVacantList (helds slots) (nexts slots) m vacant
+          → (m : ℕ) × (len + suc m ≡ length slots) × IsVacantList (helds slots) (nexts slots) (suc m) vacant
+      by_count zero total listed = absurd (omega arith)
+      by_count (suc m) total listed = (m, total, listed)
+
+  pub asked_vacancy : count_by is_some (helds slots) < length (helds slots)
+      → (m : ℕ) × (len + suc m ≡ length slots) × IsVacantList (helds slots) (nexts slots) (suc m) vacant
+  asked_vacancy asked = first_vacancy (omega (arith, asked, sound.counted, length-map slots (λ s. s.held)))
+
+  -- A vacant slot behind the others changes nothing else.
+  pub sound_pushed : (last : Slot T V) → last.held ≡ None → last.first ≡ None → last.next_vacant ≡ vacant → (at : ℕ) → at ≡ length slots
+      → IsSound cmp (slots ++ last ∷ []) len n at
+  sound_pushed last held first next at is =
+      let more : helds (slots ++ last ∷ []) ≡ helds slots ++ None ∷ [] = map_push (λ s. s.held) slots last ∙ ap (λ h. helds slots ++ h ∷ []) held in
+      let named : firsts (slots ++ last ∷ []) ≡ firsts slots ++ None ∷ [] = map_push (λ s. s.first) slots last ∙ ap (λ h. firsts slots ++ h ∷ []) first in
+      let linked : nexts (slots ++ last ∷ []) ≡ nexts slots ++ vacant ∷ [] = map_push (λ s. s.next_vacant) slots last ∙ ap (λ h. nexts slots ++ h ∷ []) next in
+      let listed = listed_new (helds slots) (nexts slots) sound.vacancies vacant (omega (arith, (lengths slots).0, (lengths slots).1)) sound.listed in
+      record {
+        settled = rw (more, named) record {
+          settled = λ k apart. get_or_push_none (firsts slots) k ∙ sound.settled.settled k apart
+              ∙ sym (λ i. earlier cmp (own_first k (get_or_push_none (helds slots) k i))
+              (earlier cmp (get_or_push_none (firsts slots) (2 * k + 1) i) (get_or_push_none (firsts slots) (2 * k + 2) i)));
+        };
+        counted = rw more (omega (arith, sound.counted, sum_by_push one (helds slots) None));
+        given_out = rw more record { below = λ k a e. sound.given_out.below k a (sym (get_or_push_none (helds slots) k) ∙ e) };
+        vacancies = suc sound.vacancies;
+        total = omega (arith, sound.total, length_push slots last);
+        listed = listed_as _ _ _ _ (suc sound.vacancies) at more linked
+            (subst (λ k. IsVacantList (helds slots ++ None ∷ []) (nexts slots ++ vacant ∷ []) (suc sound.vacancies) k) ((lengths slots).0 ∙ sym is) listed);
+      }
+
+module _ {T V : Type 0} where
+  pub within_slot : (h : List (Option (Armed T V))) (k : ℕ) (a : Armed T V) → get_or h k None ≡ Some a → k < length h
+  within_slot [] k a e = absurd cc
+  within_slot (x ∷ h) zero a e = omega arith
+  within_slot (x ∷ h) (suc k) a e = omega (arith, within_slot h k a e)
+
+  -- A timer whose slot is emptied is in the queue no more.
+  pub taken_out : (old new : Queue T V) (timer : Timer) (a : Armed T V) → armed old timer ≡ Some a → new.slots ≡ set old.slots timer.slot None
+      → IsChanged old new timer None × (timer_count new + 1 ≡ timer_count old)
+  taken_out old new timer a stands written =
+      let there = in_slot old timer a stands in
+      let within = within_slot old.slots timer.slot a there.0 in (
+        slot_changed old new timer None within written (none_numbered timer.number None refl) (some_numbered timer.number _ a there.0 there.1),
+        ap (λ s. count_by is_some s + 1) written ∙ count_emptied old.slots timer.slot within a there.0,
+      )
+
+  -- A timer of which the time and the turn are written anew stays what it is.
+  pub moved : (old new : Queue T V) (timer : Timer) (a : Armed T V) (at : T) (turn : ℕ) → armed old timer ≡ Some a
+      → new.slots ≡ set old.slots timer.slot (renewed at turn (get_or old.slots timer.slot None))
+      → IsChanged old new timer (renewed at turn (armed old timer)) × (timer_count new ≡ timer_count old)
+  moved old new timer a at turn stands written =
+      let there = in_slot old timer a stands in
+      let within = within_slot old.slots timer.slot a there.0 in
+      let known : new.slots ≡ set old.slots timer.slot (renewed at turn (Some a)) = written ∙ ap (λ h. set old.slots timer.slot (renewed at turn h)) there.0 in
+      rw stands (
+        slot_changed old new timer (renewed at turn (Some a)) within known (some_numbered timer.number _ _ refl there.1)
+            (some_numbered timer.number _ a there.0 there.1),
+        ap (count_by is_some) known ∙ count_renewed old.slots timer.slot within a _ there.0,
+      )
+
+  pub there : (h : Option (Armed T V)) → IsSome h → (a : Armed T V) × (h ≡ Some a)
+  there None some = absurd cc
+  there (Some a) some = (a, refl)
+
+module _ {T V : Type 0} {cmp : T → T → Ordering} where
+  -- Taking the first timer out, where it is due, is what a call says that answers it.
+  pub popped : (old new : Queue T V) (f : First T) (now : T) → IsFirst cmp old f → is_gt (cmp f.at now) ≡ false → new.slots ≡ set old.slots f.slot None
+      → (r : Option (T × V)) → r ≡ option_map (λ a. (a.at, a.value)) (get_or old.slots f.slot None) → IfSome r (IsPopped cmp old new now)
+  popped old new f now first due written None answer = tt
+  popped old new f now first due written (Some pair) answer =
+      let taken = first.armed in
+      let pairs = answer ∙ ap (option_map (λ (a : Armed T V). (a.at, a.value))) first.held in
+      record {
+        timer = record { slot = f.slot; number = taken.number };
+        taken = taken;
+        answer = cc;
+        earliest = first.earliest;
+        due = not_later (cmp taken.at now) (ap (λ t. is_gt (cmp t now)) first.at ∙ due);
+        changed = (taken_out old new (record { slot = f.slot; number = taken.number }) taken first.earliest.stands written).0;
+      }

@@ -1,0 +1,6 @@
+mod Kept
+mod Listed
+mod Settled
+mod Standing
+mod Turns
+mod Vacancies

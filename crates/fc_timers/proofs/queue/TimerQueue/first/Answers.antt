@@ -1,0 +1,18 @@
+use Rattle.std.proofs.Common.{vec_capacity, sym, subst, ◌∙◌}
+use Rattle.std.specs.Slice.{IsItemAt}
+use Rattle.fc_timers.specs.Timers.{Queue}
+use Rattle.fc_timers.specs.Tournament.{helds, firsts}
+use Rattle.fc_timers.proofs.Standing.{read_at, top_none, top_some}
+use Rattle.fc_timers.proofs.queue.TimerQueue.first.Goals as goal
+
+pub returns-in-Some : goal.returns-in-Some
+returns-in-Some g c =
+    let slots = c.self.inside.slots.items in
+    let seen : Queue g.row.T.Denot g.row.V.Denot =
+    record { slots = helds slots; next_number = c.self.inside.next_number; room = vec_capacity c.self.inside.slots } in
+    let lent = subst (λ l. IsItemAt l 0 c.get.result) c.deref.ensures.value c.get.ensures.lookup in
+    let named = c.as_ref.ensures.value ∙ sym (read_at (λ s. s.first) slots 0 _ _ lent c.in-Some.is).1 in
+    rw (← c.self.view_is) record {
+      none = top_none g.met.T.Ord.total seen (firsts slots) c.self.invariant.settled _ named;
+      earliest = top_some g.met.T.Ord.total seen (firsts slots) c.self.invariant.settled _ named;
+    }

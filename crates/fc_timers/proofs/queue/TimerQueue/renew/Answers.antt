@@ -1,0 +1,23 @@
+use Rattle.std.proofs.Common.{◌≡◌, ◌<◌, length, get_or, set, Some, None, refl, ap, ◌∙◌, arith}
+use Rattle.std.proofs.lemmas.List.{length-map, with_items_is}
+use Rattle.fc_timers.specs.declared.timer.Armed.{Armed}
+use Rattle.fc_timers.specs.Timers.{renewed}
+use Rattle.fc_timers.specs.Tournament.{helds, nexts}
+use Rattle.fc_timers.proofs.Kept.{sound_renewed, within_slot, there}
+use Rattle.fc_timers.proofs.queue.TimerQueue.renew.Goals as goal
+
+pub invariant_of-self : goal.invariant_of-self
+invariant_of-self g c =
+    let slots = c.self.inside.slots.items in
+    let next = c.self.inside.next_number in
+    let old = there _ (rw (← c.self.view_is) at c.requires.held) in
+    let new : Armed g.row.T.Denot g.row.V.Denot = record { at = c.args.at; turn = next; number = old.0.number; value = old.0.value } in
+    let held : get_or (helds slots) c.args.slot None ≡ Some old.0 = old.1 in
+    let within : c.args.slot < length slots = omega (arith, length-map slots (λ s. s.held), within_slot (helds slots) c.args.slot old.0 held) in
+    let written : helds c.retime.new.slots ≡ set (helds slots) c.args.slot (Some new) =
+    c.retime.ensures.held ∙ ap (λ l. set (helds l) c.args.slot (renewed c.args.at next (get_or (helds l) c.args.slot None))) c.as_mut_slice.ensures.value
+    ∙ ap (λ h. set (helds slots) c.args.slot (renewed c.args.at next h)) held in
+    let named : nexts c.retime.new.slots ≡ nexts slots = c.retime.ensures.next ∙ ap nexts c.as_mut_slice.ensures.value in
+    rw (with_items_is c.self.inside.slots c.retime.new.slots (omega arith))
+    (sound_renewed slots c.retime.new.slots c.args.slot c.self.inside.len next c.self.inside.vacant within
+    c.self.invariant c.retime.ensures.settled old.0 new held written named refl refl)

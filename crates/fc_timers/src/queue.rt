@@ -1,0 +1,318 @@
+//! The queue.
+ghost use Rattle.std.specs.Prelude.{◌≡◌, ℕ, ◌==◌, ◌∷◌, ◌++◌, [], if◌then◌else◌, ◌+◌, ◌<◌, ◌≤◌, ◌⊎◌, ◌↔◌, IsTrue, IfSome, IfNone, OnSome, IfOk, IfErr, OnOk, OnErr, IsErr, IsOk, IsSome, Some, None, count_by, is_some, length, map, slice_index_or, slice_set, option_copied};
+ghost use Rattle.std.specs.Option.{option_map};
+ghost use Rattle.fc_base.specs.declared.try_reserve_error.TryReserveError.{TryReserveError as Error};
+ghost use Rattle.fc_timers.specs.Timers.{AreGivenOut, HasNone, IsChanged, IsEarliest, IsPopped, NoneDue, armed, newly, renewed, timer_count};
+ghost use Rattle.fc_timers.specs.Tournament.{IsFirst};
+ghost use Rattle.fc_timers.specs.declared.timer.Armed.{Armed as Held};
+ghost use Rattle.fc_timers.specs.declared.timer.Timer.{Timer as Key};
+
+use crate::slot::{First, Slot};
+use crate::timer::{Armed, Timer};
+use crate::tournament::{change, retime, vacate};
+use fc_base::{Handle, TryReserveError};
+use std::alloc::Global;
+use std::marker::Model;
+
+/// Timers with their times and values, which come out in the order of their times, and those of equal times in the order in which they were
+/// inserted. A call takes a number of steps that grows with the logarithm of the most timers that the queue held at once. Only `try_insert`
+/// takes memory.
+#[derive(Drop)]
+pub struct TimerQueue<T: Ord, V, A: Handle = Global> {
+    slots: Vec<Slot<T, V>, A>,
+    len: usize,
+    // The number and the turn that are given out next.
+    next_number: u64,
+    // The first slot of the list of those where no timer stands, or a number that is no slot's.
+    vacant: usize,
+}
+
+impl<T: Ord, V, A: Handle> Model for TimerQueue<T, V, A> {
+    ghost use Rattle.fc_timers.specs.Timers.{Queue};
+    ghost use Rattle.fc_timers.specs.Tournament.{helds, IsSound};
+    ghost use Rattle.std.specs.Prelude.{vec_capacity};
+
+    ghost Value = { Queue T V };
+
+    ghost view = { λ q. record { slots = helds q.slots.items; next_number = q.next_number; room = vec_capacity q.slots } };
+
+    ghost invariant = { λ q. IsSound T.cmp q.slots.items q.len q.next_number q.vacant };
+}
+
+impl<T: Ord, V, A: Handle> TimerQueue<T, V, A> {
+    /// A queue of no timer, which takes no memory. Later requests go to `alloc`.
+    pub fn new(alloc: A) -> TimerQueue<T, V, A>
+        ensures none { HasNone result }
+        ensures count { timer_count result ≡ 0 }
+        ensures number { result.next_number ≡ 0 }
+        ensures room { result.room ≡ 0 }
+    {
+        TimerQueue {
+            slots: Vec::new(alloc),
+            len: 0,
+            next_number: 0,
+            vacant: usize::MAX,
+        }
+    }
+
+    /// The number of timers.
+    pub fn len(&self) -> usize
+        ensures value { result ≡ timer_count self.now }
+        ensures given_out { AreGivenOut self.now }
+    {
+        self.len
+    }
+
+    /// How many timers fit before the next request for memory.
+    pub fn capacity(&self) -> usize
+        ensures value { result ≡ self.now.room }
+        ensures holds_all { timer_count self.now ≤ self.now.room }
+    {
+        self.slots.capacity()
+    }
+
+    /// Makes room for so many more timers: as many insertions then take no memory, and are not refused for want of it. Where they fit as it is, it takes
+    /// no memory.
+    ///
+    /// # Errors
+    /// `AllocError` where the request was refused. The queue is then as it was.
+    pub fn try_reserve(&mut self, additional: usize) -> Result<(), TryReserveError>
+        ensures room { OnOk result (timer_count self.old + additional ≤ self.new.room) }
+        ensures timers { self.new ≡ record self.old { room = self.new.room } }
+        ensures kept { self.old.room ≤ self.new.room }
+        ensures fits { timer_count self.old + additional ≤ self.old.room → IsOk result }
+        ensures unchanged { OnErr result (self.new ≡ self.old) }
+        ensures error { IfErr result (λ e. e ≡ Error.AllocError) }
+    {
+        let vacant = self.slots.len() - self.len;
+        if additional <= vacant {
+            Ok(())
+        } else {
+            self.slots.reserve(additional - vacant)?;
+            Ok(())
+        }
+    }
+
+    /// Whether there is no timer.
+    pub fn is_empty(&self) -> bool
+        ensures { IsTrue result ↔ (timer_count self.now ≡ 0) }
+    {
+        self.len == 0
+    }
+
+    /// The timer's time, turn and value. `None` where it is not in the queue: it came out, or was cancelled.
+    pub fn get(&self, timer: Timer) -> Option<&Armed<T, V>>
+        ensures { option_copied result ≡ armed self.now timer }
+    {
+        match self.standing(timer.slot) {
+            Some(armed) => {
+                if armed.number == timer.number {
+                    Some(armed)
+                } else {
+                    None
+                }
+            }
+            None => None,
+        }
+    }
+
+    // The timer that stands in a slot.
+    fn standing(&self, slot: usize) -> Option<&Armed<T, V>>
+        ensures { option_copied result ≡ slice_index_or self.now.slots slot None }
+    {
+        match self.slots.get(slot) {
+            Some(slot) => slot.held.as_ref(),
+            None => None,
+        }
+    }
+
+    /// The time of the timer that comes out next: none is due before it. `None` where there is no timer.
+    pub fn next_deadline(&self) -> Option<&T>
+        ensures none { IfNone result (HasNone self.now × (timer_count self.now ≡ 0)) }
+        ensures earliest { IfSome result (λ at. (timer : Key) × (a : Held T V) × (at.now ≡ a.at) × IsEarliest T.cmp self.now timer a) }
+    {
+        Some(&self.first()?.at)
+    }
+
+    // The timer that comes out next, as the slot at the top names it.
+    fn first(&self) -> Option<&First<T>>
+        ensures none { IfNone result (HasNone self.now × (timer_count self.now ≡ 0)) }
+        ensures earliest { IfSome result (λ first. IsFirst T.cmp self.now first.now) }
+    {
+        match self.slots.get(0) {
+            Some(slot) => slot.first.as_ref(),
+            None => None,
+        }
+    }
+}
+
+impl<T: Ord + Copy + Drop, V: Drop, A: Handle> TimerQueue<T, V, A> {
+    /// Puts a timer in, behind those of its time, and answers what it is found by. It takes memory only where the queue holds as many timers as
+    /// it ever held.
+    ///
+    /// # Errors
+    /// `AllocError` where a request for memory was refused; `CapacityOverflow` where the queue gave out 2^64 - 1 turns. The queue is then
+    /// as it was, and time and value come back.
+    pub fn try_insert(&mut self, at: T, value: V) -> Result<Timer, (T, V, TryReserveError)>
+        ensures inserted { IfOk result (λ timer. IsChanged self.old self.new timer (Some (newly self.old at value))) }
+        ensures fresh { IfOk result (λ timer. armed self.old timer ≡ None) }
+        ensures count { OnOk result (timer_count self.new ≡ timer_count self.old + 1) }
+        ensures number { OnOk result (self.new.next_number ≡ self.old.next_number + 1) }
+        ensures room { self.old.room ≤ self.new.room }
+        ensures fits { timer_count self.old < self.old.room → self.old.next_number < u64.MAX → IsOk result }
+        ensures unchanged { OnErr result (self.new ≡ self.old) }
+        ensures back { IfErr result (λ e. (e.0 ≡ at) × (e.1 ≡ value)) }
+        ensures error { IfErr result (λ e. e.2 ≡ (if self.old.next_number == u64.MAX then Error.CapacityOverflow else Error.AllocError)) }
+        ensures used_up { self.old.next_number ≡ u64.MAX → IsErr result }
+    {
+        if self.next_number == u64::MAX {
+            return Err((at, value, TryReserveError::CapacityOverflow));
+        }
+        match self.make_vacancy() {
+            Ok(()) => Ok(self.fill(at, value)),
+            Err(error) => Err((at, value, error)),
+        }
+    }
+
+    // Has a slot where no timer stands. It asks for memory only where one stands in each.
+    fn make_vacancy(&mut self) -> Result<(), TryReserveError>
+        ensures vacancy { OnOk result (timer_count self.new < length self.new.slots) }
+        ensures slots { (k : ℕ) → slice_index_or self.new.slots k None ≡ slice_index_or self.old.slots k None }
+        ensures count { timer_count self.new ≡ timer_count self.old }
+        ensures number { self.new.next_number ≡ self.old.next_number }
+        ensures room { self.old.room ≤ self.new.room }
+        ensures fits { timer_count self.old < self.old.room → IsOk result }
+        ensures unchanged { OnErr result (self.new ≡ self.old) }
+        ensures error { IfErr result (λ e. e ≡ Error.AllocError) }
+    {
+        if self.len < self.slots.len() {
+            Ok(())
+        } else {
+            self.add_slot()
+        }
+    }
+
+    // Adds a slot, where no timer stands.
+    fn add_slot(&mut self) -> Result<(), TryReserveError>
+        ensures slots { OnOk result (self.new.slots ≡ self.old.slots ++ None ∷ []) }
+        ensures number { self.new.next_number ≡ self.old.next_number }
+        ensures room { self.old.room ≤ self.new.room }
+        ensures fits { length self.old.slots < self.old.room → IsOk result }
+        ensures unchanged { OnErr result (self.new ≡ self.old) }
+        ensures error { IfErr result (λ e. e ≡ Error.AllocError) }
+    {
+        let slot = self.slots.len();
+        self.slots.reserve(1)?;
+        self.slots.push_reserved(Slot {
+            held: None,
+            first: None,
+            next_vacant: self.vacant,
+        });
+        self.vacant = slot;
+        Ok(())
+    }
+
+    // Puts a timer into the first slot of the list of those where none stands.
+    fn fill(&mut self, at: T, value: V) -> Timer
+        requires number { self.old.next_number < u64.MAX }
+        requires vacancy { timer_count self.old < length self.old.slots }
+        ensures within { result.slot < length self.old.slots }
+        ensures vacant { slice_index_or self.old.slots result.slot None ≡ None }
+        ensures slots { self.new.slots ≡ slice_set self.old.slots result.slot (Some (newly self.old at value)) }
+        ensures number { self.new.next_number ≡ self.old.next_number + 1 }
+        ensures timer { result.number ≡ self.old.next_number }
+        ensures room { self.new.room ≡ self.old.room }
+    {
+        let slot = self.vacant;
+        let number = self.next_number;
+        self.vacant = self.slots[slot].next_vacant;
+        let armed = Armed {
+            at,
+            turn: number,
+            number,
+            value,
+        };
+        change(self.slots.as_mut_slice(), slot, Some(armed));
+        self.len += 1;
+        self.next_number += 1;
+        Timer { slot, number }
+    }
+
+    /// Takes a timer out, and answers its time and value. `None` where it is not in the queue, which then stays as it is.
+    pub fn cancel(&mut self, timer: Timer) -> Option<(T, V)>
+        ensures answer { result ≡ option_map (λ a. (a.at, a.value)) (armed self.old timer) }
+        ensures changed { IsChanged self.old self.new timer None }
+        ensures unchanged { IfNone result (self.new ≡ self.old) }
+        ensures count { OnSome result (timer_count self.new + 1 ≡ timer_count self.old) }
+        ensures number { self.new.next_number ≡ self.old.next_number }
+        ensures room { self.new.room ≡ self.old.room }
+    {
+        match self.get(timer) {
+            Some(_armed) => self.take(timer.slot),
+            None => None,
+        }
+    }
+
+    // Takes the timer of a slot out.
+    fn take(&mut self, slot: usize) -> Option<(T, V)>
+        requires { IsSome (slice_index_or self.old.slots slot None) }
+        ensures answer { result ≡ option_map (λ a. (a.at, a.value)) (slice_index_or self.old.slots slot None) }
+        ensures slots { self.new.slots ≡ slice_set self.old.slots slot None }
+        ensures number { self.new.next_number ≡ self.old.next_number }
+        ensures room { self.new.room ≡ self.old.room }
+    {
+        let armed = vacate(self.slots.as_mut_slice(), slot, self.vacant)?;
+        self.vacant = slot;
+        self.len -= 1;
+        Some((armed.at, armed.value))
+    }
+
+    /// Gives a timer another time, behind those of that time, as if it were inserted anew, and answers the time that it had. It takes no memory.
+    /// `None` where the timer is not in the queue, or 2^64 - 1 turns were given out; the queue then stays as it is.
+    pub fn reschedule(&mut self, timer: Timer, at: T) -> Option<T>
+        ensures answer { IfSome result (λ was. option_map (λ a. a.at) (armed self.old timer) ≡ Some was) }
+        ensures moved { OnSome result (IsChanged self.old self.new timer (renewed at self.old.next_number (armed self.old timer))) }
+        ensures number { OnSome result (self.new.next_number ≡ self.old.next_number + 1) }
+        ensures none { IfNone result ((armed self.old timer ≡ None) ⊎ (self.old.next_number ≡ u64.MAX)) }
+        ensures unchanged { IfNone result (self.new ≡ self.old) }
+        ensures count { timer_count self.new ≡ timer_count self.old }
+        ensures room { self.new.room ≡ self.old.room }
+    {
+        let was = self.get(timer)?.at;
+        if self.next_number == u64::MAX {
+            return None;
+        }
+        self.renew(timer.slot, at);
+        Some(was)
+    }
+
+    // Gives the timer of a slot another time, and the next turn.
+    fn renew(&mut self, slot: usize, at: T)
+        requires number { self.old.next_number < u64.MAX }
+        requires held { IsSome (slice_index_or self.old.slots slot None) }
+        ensures slots { self.new.slots ≡ slice_set self.old.slots slot (renewed at self.old.next_number (slice_index_or self.old.slots slot None)) }
+        ensures number { self.new.next_number ≡ self.old.next_number + 1 }
+        ensures room { self.new.room ≡ self.old.room }
+    {
+        retime(self.slots.as_mut_slice(), slot, at, self.next_number);
+        self.next_number += 1;
+    }
+
+    /// Takes the first timer out, where it is due at this time, and answers its time and value. `None` where no timer is due, and the queue stays as
+    /// it is. Called in a loop until then, it takes all that are due, in order.
+    pub fn pop_due(&mut self, now: &T) -> Option<(T, V)>
+        ensures popped { IfSome result (λ pair. IsPopped T.cmp self.old self.new now.now pair) }
+        ensures none { IfNone result (NoneDue T.cmp self.old now.now) }
+        ensures unchanged { IfNone result (self.new ≡ self.old) }
+        ensures count { OnSome result (timer_count self.new + 1 ≡ timer_count self.old) }
+        ensures number { self.new.next_number ≡ self.old.next_number }
+        ensures room { self.new.room ≡ self.old.room }
+    {
+        let first = *self.first()?;
+        if first.at.cmp(now).is_gt() {
+            None
+        } else {
+            self.take(first.slot)
+        }
+    }
+}

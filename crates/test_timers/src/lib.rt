@@ -1,0 +1,11 @@
+//! Timers beside a plain row of them, in a budget, and with each request for memory refused in turn.
+#![tactic(auto)]
+
+#[cfg(test)]
+mod budget;
+#[cfg(test)]
+mod order;
+#[cfg(test)]
+mod refusals;
+#[cfg(test)]
+mod row;
