@@ -1,0 +1,97 @@
+//! A table beside its rows in an array, where each id is a place.
+use fc_index::{Row, Table};
+use fc_set::set::Range;
+use std::ops::Bound;
+
+// How many ids there are, and how many keys of each kind.
+pub(crate) const IDS: usize = 24;
+
+pub(crate) const KEYS: u64 = 5;
+
+pub(crate) type Part = Row<u64, u64, u64>;
+
+pub(crate) type Parts = Table<u64, u64, u64, u64>;
+
+pub(crate) type Plain = [Option<Part>; IDS];
+
+// The id of the first row, from a place on, with this key, and the place behind it.
+fn next_of(plain: &Plain, by_first: bool, key: u64, from: usize) -> Option<usize> {
+    for at in from..IDS {
+        let Some(row) = plain[at] else {
+            continue;
+        };
+        let own = if by_first { row.first } else { row.second };
+        if own == key {
+            return Some(at);
+        }
+    }
+    None
+}
+
+// Whether the walk goes on with just those rows of this key, in the order of their ids.
+fn goes_on_with(walk: &mut Range<'_, (u64, u64)>, plain: &Plain, by_first: bool, key: u64) -> bool {
+    let mut from = 0usize;
+    for _ in 0..IDS {
+        let Some(at) = next_of(plain, by_first, key, from) else {
+            return true;
+        };
+        match walk.next() {
+            Some((own, id)) if *own == key && *id == at as u64 => (),
+            _ => return false,
+        }
+        from = at.wrapping_add(1);
+    }
+    true
+}
+
+// Whether the walk has just those rows whose keys lie from one up to, and without, another, in the order of keys and ids.
+fn is_walked(
+    walk: Range<'_, (u64, u64)>,
+    plain: &Plain,
+    by_first: bool,
+    from: u64,
+    to: u64,
+) -> bool {
+    let mut walk = walk;
+    for key in from..to {
+        if !goes_on_with(&mut walk, plain, by_first, key) {
+            return false;
+        }
+    }
+    walk.next().is_none()
+}
+
+// Whether both walks over these keys have just the rows that they should.
+fn has_keys(table: &Parts, plain: &Plain, from: u64, to: u64) -> bool {
+    let bounds = (Bound::Included(from), Bound::Excluded(to));
+    is_walked(table.by_first(bounds), plain, true, from, to)
+        && is_walked(table.by_second(bounds), plain, false, from, to)
+}
+
+// Whether the table has the rows of the array, and nothing else, by their ids.
+fn has_rows(table: &Parts, plain: &Plain) -> bool {
+    let mut walk = table.iter();
+    let mut count = 0usize;
+    for at in 0..IDS {
+        let id = at as u64;
+        if table.get(id).copied() != plain[at] || table.contains(id) != plain[at].is_some() {
+            return false;
+        }
+        if plain[at].is_some() {
+            count = count.wrapping_add(1);
+            if walk.next().map(|pair| *pair.0) != Some(id) {
+                return false;
+            }
+        }
+    }
+    walk.next().is_none() && table.len() == count && table.is_empty() == (count == 0)
+}
+
+/// Whether the table has the rows of the array, and nothing else, by their ids and by both keys.
+pub(crate) fn is_like(table: &Parts, plain: &Plain) -> bool {
+    has_rows(table, plain)
+        && has_keys(table, plain, 0, KEYS)
+        && has_keys(table, plain, 1, 3)
+        && has_keys(table, plain, 3, 4)
+        && has_keys(table, plain, 4, 4)
+}
