@@ -15,10 +15,10 @@ key_then_id cmp ids a b = ordering_then (cmp a.0 b.0) (ids a.1 b.1)
 abbrev pub lies : {K : Type 0} → (K → K → Ordering) → Bound K → Bound K → K → Bool
 lies cmp lo hi k = starts cmp lo k && stops cmp hi k
 
--- Whether a row is there and has a key equal to k.
+-- Whether a row is there, and k is equal to its key.
 abbrev pub has_key : {K R : Type 0} → (K → K → Ordering) → (R → K) → Option R → K → Bool
 has_key cmp key None k = false
-has_key cmp key (Some r) k = is_eq (cmp (key r) k)
+has_key cmp key (Some r) k = is_eq (cmp k (key r))
 
 module _ {K I R : Type 0} (cmp : K → K → Ordering) (ids : I → I → Ordering) (key : R → K) where
   -- The index lists exactly the rows: a key and an id stand in it where a row of that key is at the id, and nowhere else.
