@@ -50,7 +50,10 @@ module _ {K I : Type 0} (cmp : K → K → Ordering) where
   stops_same Unbounded x = refl
 
   edged : (lo hi : Bound K) (s : List (K × I)) → items_within (edge_order cmp) (start_edge lo) (end_edge hi) s ≡ filter (λ x. lies cmp lo hi x.0) s
-  edged lo hi s = same_filter _ _ (λ x. ap (λ b. b && stops (edge_order cmp) (end_edge hi) x) (starts_same lo x) ∙ ap (λ b. starts cmp lo x.0 && b) (stops_same hi x)) s
+  edged lo hi s = same_filter _ (λ x. lies cmp lo hi x.0) same s
+    where
+      same : (x : K × I) → (starts (edge_order cmp) (start_edge lo) x && stops (edge_order cmp) (end_edge hi) x) ≡ lies cmp lo hi x.0
+      same x = rw (starts_same lo x, stops_same hi x) refl
 
 module _ {K : Type 0} (cmp : K → K → Ordering) (total : IsTotalOrder cmp) (x y : K) (same : cmp x y ≡ Equal) where
   starts_equal : (lo : Bound K) → starts cmp lo x ≡ starts cmp lo y

@@ -60,13 +60,15 @@ module _ {T : Type 0} (cmp : T → T → Ordering) (total : IsTotalOrder cmp) (s
   there_with =
       ap (λ l. is_some (item_at cmp l y)) (ap (λ l. with_item cmp l x) (sym (pairs_keys s)) ∙ with_item_keys cmp (pairs s) x tt)
       ∙ of_keys (put cmp (pairs s) x tt) ∙ ap is_some (value_put cmp total (pairs s) x y tt)
-      ∙ elim (is_eq (cmp y x)) as (λ b. is_some (cond b (Some tt) (value_at cmp (pairs s) y)) ≡ (b || is_some (item_at cmp s y))) [ true ↦ refl | false ↦ of_items ]
+      ∙ elim (is_eq (cmp y x)) as (λ b. is_some (cond b (Some tt) (value_at cmp (pairs s) y)) ≡ (b || is_some (item_at cmp s y)))
+      [ true ↦ refl | false ↦ of_items ]
 
   pub there_without : is_some (item_at cmp (without cmp s x) y) ≡ (not (is_eq (cmp y x)) && is_some (item_at cmp s y))
   there_without =
       ap (λ l. is_some (item_at cmp l y)) (ap (λ l. without cmp l x) (sym (pairs_keys s)) ∙ without_keys cmp (pairs s) x)
       ∙ of_keys (cut cmp (pairs s) x) ∙ ap is_some (value_cut cmp total (pairs s) x y)
-      ∙ elim (is_eq (cmp y x)) as (λ b. is_some (cond b None (value_at cmp (pairs s) y)) ≡ (not b && is_some (item_at cmp s y))) [ true ↦ refl | false ↦ of_items ]
+      ∙ elim (is_eq (cmp y x)) as (λ b. is_some (cond b None (value_at cmp (pairs s) y)) ≡ (not b && is_some (item_at cmp s y)))
+      [ true ↦ refl | false ↦ of_items ]
 
 module _ {K I R : Type 0} (cmp : K → K → Ordering) (ids : I → I → Ordering) (key : R → K) (total : IsTotalOrder cmp) (totals : IsTotalOrder ids) where
   abbrev order : K × I → K × I → Ordering
@@ -114,7 +116,8 @@ module _ {K I R : Type 0} (cmp : K → K → Ordering) (ids : I → I → Orderi
   put_cut : (rows : List (I × R)) (i : I) (r : R) (j : I) → value_at ids (put ids (cut ids rows i) i r) j ≡ value_at ids (put ids rows i r) j
   put_cut rows i r j =
       value_put ids totals (cut ids rows i) i j r ∙ ap (λ v. cond (is_eq (ids j i)) (Some r) v) (value_cut ids totals rows i j)
-      ∙ elim (is_eq (ids j i)) as (λ b. cond b (Some r) (cond b None (value_at ids rows j)) ≡ cond b (Some r) (value_at ids rows j)) [ true ↦ refl | false ↦ refl ]
+      ∙ elim (is_eq (ids j i)) as (λ b. cond b (Some r) (cond b None (value_at ids rows j)) ≡ cond b (Some r) (value_at ids rows j))
+      [ true ↦ refl | false ↦ refl ]
       ∙ sym (value_put ids totals rows i j r)
 
   -- A row that is put takes out the item of the one that it replaces, if there is one, and brings its own along.
@@ -122,7 +125,8 @@ module _ {K I R : Type 0} (cmp : K → K → Ordering) (ids : I → I → Orderi
       → Lists cmp ids key (put ids rows i r) (with_item order (without_old cmp ids index (option_map key (value_at ids rows i)) i) (key r, i))
   lists_put rows index listed i r = go (value_at ids rows i) refl
     where
-      go : (o : Option R) → value_at ids rows i ≡ o → Lists cmp ids key (put ids rows i r) (with_item order (without_old cmp ids index (option_map key o) i) (key r, i))
+      go : (o : Option R) → value_at ids rows i ≡ o
+          → Lists cmp ids key (put ids rows i r) (with_item order (without_old cmp ids index (option_map key o) i) (key r, i))
       go None e = lists_new rows index listed i r e
       go (Some old) e =
           let both = lists_new (cut ids rows i) _ (lists_cut rows index listed i old e) i r (ap (option_map (λ x. x.1)) (at_cut ids rows i)) in
