@@ -5,7 +5,7 @@ ghost use Rattle.fc_set.specs.Items.{items, items_within, AreAscending};
 ghost use Rattle.fc_index.specs.Edges.{edge_order, edges_fit, start_edge, end_edge};
 ghost use Rattle.fc_index.specs.Rows.{key_then_id};
 
-use fc_base::{Count, Handle, Query, compare};
+use fc_base::{Handle, Query};
 use fc_set::set::{BTreeSet, Range};
 use std::cmp::Ordering;
 use std::ops::Bound;
@@ -34,7 +34,7 @@ impl<K: Ord + Copy, I: Ord> Query<(K, I)> for Edge<K> {
         } else {
             Ordering::Less
         };
-        match compare(&item.0, &self.key, &mut Count::new()) {
+        match item.0.cmp(&self.key) {
             Ordering::Equal => side,
             apart => apart,
         }

@@ -3,10 +3,10 @@
 
 mod debug;
 mod edge;
-mod row;
+pub mod keyed;
 mod steps;
 pub mod table;
 
 pub use fc_base::TryReserveError;
-pub use row::Row;
+pub use keyed::Keyed;
 pub use table::Table;

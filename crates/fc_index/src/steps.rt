@@ -5,7 +5,7 @@ ghost use Rattle.fc_map.specs.Entries.{entries};
 ghost use Rattle.fc_set.specs.Items.{items, with_item};
 ghost use Rattle.fc_index.specs.Rows.{key_then_id, without_old};
 
-use crate::row::Row;
+use crate::keyed::Keyed;
 use fc_base::{Handle, TryReserveError};
 use fc_map::map::{BTreeMap, Reservation};
 use fc_set::set::BTreeSet;
@@ -18,12 +18,12 @@ pub(crate) type KeyNodes<K, I, H> = Reservation<(K, I), (), H>;
 /// # Errors
 /// Where a request for memory was refused, or a tree has as many items as it can count. What was taken is then given back.
 pub(crate) fn try_reserve<I: Ord + Drop, A: Ord + Drop, B: Ord + Drop, V: Drop, H: Handle>(
-    rows: &BTreeMap<I, Row<A, B, V>, H>,
+    rows: &BTreeMap<I, Keyed<A, B, V>, H>,
     firsts: &BTreeSet<(A, I), H>,
     seconds: &BTreeSet<(B, I), H>,
 ) -> Result<
     (
-        Reservation<I, Row<A, B, V>, H>,
+        Reservation<I, Keyed<A, B, V>, H>,
         KeyNodes<A, I, H>,
         KeyNodes<B, I, H>,
     ),
@@ -40,7 +40,7 @@ pub(crate) fn try_reserve<I: Ord + Drop, A: Ord + Drop, B: Ord + Drop, V: Drop, 
 }
 
 /// Takes the item of an old key and the id out, if there is an old key, and puts that of the new key in, by the nodes that were taken.
-pub(crate) fn exchange<K: Ord + Copy + Drop, I: Ord + Copy + Drop, H: Handle>(
+pub(crate) fn exchange<K: Ord + Copy, I: Ord + Copy, H: Handle>(
     index: &mut BTreeSet<(K, I), H>,
     nodes: &mut KeyNodes<K, I, H>,
     old: Option<K>,
@@ -58,7 +58,7 @@ pub(crate) fn exchange<K: Ord + Copy + Drop, I: Ord + Copy + Drop, H: Handle>(
 }
 
 /// The first key of a row, if there is a row.
-pub(crate) fn first_of<A: Copy, B: Copy, V>(row: &Option<Row<A, B, V>>) -> Option<A>
+pub(crate) fn first_of<A: Copy, B: Copy, V>(row: &Option<Keyed<A, B, V>>) -> Option<A>
     ensures { result ≡ option_map (λ r. r.first) row.now }
 {
     match row {
@@ -68,7 +68,7 @@ pub(crate) fn first_of<A: Copy, B: Copy, V>(row: &Option<Row<A, B, V>>) -> Optio
 }
 
 /// The second key of a row, if there is a row.
-pub(crate) fn second_of<A: Copy, B: Copy, V>(row: &Option<Row<A, B, V>>) -> Option<B>
+pub(crate) fn second_of<A: Copy, B: Copy, V>(row: &Option<Keyed<A, B, V>>) -> Option<B>
     ensures { result ≡ option_map (λ r. r.second) row.now }
 {
     match row {

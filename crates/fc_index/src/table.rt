@@ -7,7 +7,7 @@ ghost use Rattle.fc_map.specs.Entries.{now_value};
 ghost use Rattle.fc_index.specs.Rows.{AreByKey, lies};
 
 use crate::edge::items_between;
-use crate::row::Row;
+use crate::keyed::Keyed;
 use crate::steps::{exchange, first_of, second_of, try_reserve};
 use fc_base::{Handle, TryReserveError};
 use fc_map::map::{BTreeMap, Iter};
@@ -20,7 +20,7 @@ use std::ops::Bound;
 /// `try_insert` takes memory.
 #[derive(Drop)]
 pub struct Table<I: Ord, A: Ord, B: Ord, V, H: Handle = Global> {
-    rows: BTreeMap<I, Row<A, B, V>, H>,
+    rows: BTreeMap<I, Keyed<A, B, V>, H>,
     firsts: BTreeSet<(A, I), H>,
     seconds: BTreeSet<(B, I), H>,
 }
@@ -30,9 +30,9 @@ impl<I: Ord, A: Ord, B: Ord, V, H: Handle> Model for Table<I, A, B, V, H> {
     ghost use Rattle.fc_map.specs.Entries.{entries};
     ghost use Rattle.fc_set.specs.Items.{items};
     ghost use Rattle.fc_index.specs.Rows.{Lists};
-    ghost use Rattle.fc_index.specs.declared.row.Row.{Row};
+    ghost use Rattle.fc_index.specs.declared.keyed.Keyed.{Keyed};
 
-    ghost Value = { List (I × Row A B V) };
+    ghost Value = { List (I × Keyed A B V) };
 
     ghost view = { λ t. entries t.rows };
 
@@ -67,7 +67,7 @@ impl<I: Ord, A: Ord, B: Ord, V, H: Handle> Table<I, A, B, V, H> {
     }
 
     /// A walk over all rows from both ends, in the order of their ids.
-    pub fn iter(&self) -> Iter<'_, I, Row<A, B, V>, H>
+    pub fn iter(&self) -> Iter<'_, I, Keyed<A, B, V>, H>
         ensures rows { result ≡ self.now }
         ensures ascending { IsAscending I.cmp result }
     {
@@ -78,7 +78,7 @@ impl<I: Ord, A: Ord, B: Ord, V, H: Handle> Table<I, A, B, V, H> {
 impl<I: Ord + Copy, A: Ord, B: Ord, V, H: Handle> Table<I, A, B, V, H> {
     /// The row at an equal id. `None` where there is none. No call lends a row for writing, since its keys could then become others than
     /// those that the indexes list: `try_insert` puts another row in its place.
-    pub fn get(&self, id: I) -> Option<&Row<A, B, V>>
+    pub fn get(&self, id: I) -> Option<&Keyed<A, B, V>>
         ensures row { now_value result ≡ value_at I.cmp self.now id }
         ensures ascending { IsAscending I.cmp self.now }
     {
@@ -112,13 +112,7 @@ impl<I: Ord + Copy, A: Ord + Copy, B: Ord + Copy, V, H: Handle> Table<I, A, B, V
     }
 }
 
-impl<I: Ord + Copy + Drop, A: Ord + Copy + Drop, B: Ord + Copy + Drop, V: Drop, H: Handle> Table<
-    I,
-    A,
-    B,
-    V,
-    H,
-> {
+impl<I: Ord + Copy, A: Ord + Copy, B: Ord + Copy, V: Drop, H: Handle> Table<I, A, B, V, H> {
     /// Puts a row with these second keys and this value at the id. A row that is at an equal id is replaced and answered, and is found by
     /// its second keys no more; else the answer is `Ok(None)`.
     ///
@@ -131,7 +125,7 @@ impl<I: Ord + Copy + Drop, A: Ord + Copy + Drop, B: Ord + Copy + Drop, V: Drop, 
         first: A,
         second: B,
         value: V,
-    ) -> Result<Option<Row<A, B, V>>, (V, TryReserveError)>
+    ) -> Result<Option<Keyed<A, B, V>>, (V, TryReserveError)>
         ensures old { IfOk result (λ old. old ≡ value_at I.cmp self.old id) }
         ensures put { OnOk result (self.new ≡ put I.cmp self.old id (record { first = first; second = second; value = value })) }
         ensures unchanged { OnErr result (self.new ≡ self.old) }
@@ -140,7 +134,7 @@ impl<I: Ord + Copy + Drop, A: Ord + Copy + Drop, B: Ord + Copy + Drop, V: Drop, 
     {
         match try_reserve(&self.rows, &self.firsts, &self.seconds) {
             Ok((mut row_nodes, mut first_nodes, mut second_nodes)) => {
-                let row = Row {
+                let row = Keyed {
                     first,
                     second,
                     value,
@@ -168,7 +162,7 @@ impl<I: Ord + Copy + Drop, A: Ord + Copy + Drop, B: Ord + Copy + Drop, V: Drop, 
 
     /// Takes the row at an equal id out and answers it: it is found by its second keys no more. `None` where there is none, and the table
     /// is as it was. It takes no memory.
-    pub fn remove(&mut self, id: I) -> Option<Row<A, B, V>>
+    pub fn remove(&mut self, id: I) -> Option<Keyed<A, B, V>>
         ensures row { result ≡ value_at I.cmp self.old id }
         ensures rest { self.new ≡ cut I.cmp self.old id }
         ensures ascending { IsAscending I.cmp self.new }

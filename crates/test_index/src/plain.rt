@@ -1,5 +1,5 @@
 //! A table beside its rows in an array, where each id is a place.
-use fc_index::{Row, Table};
+use fc_index::{Keyed, Table};
 use fc_set::set::Range;
 use std::ops::Bound;
 
@@ -8,7 +8,7 @@ pub(crate) const IDS: usize = 24;
 
 pub(crate) const KEYS: u64 = 5;
 
-pub(crate) type Part = Row<u64, u64, u64>;
+pub(crate) type Part = Keyed<u64, u64, u64>;
 
 pub(crate) type Parts = Table<u64, u64, u64, u64>;
 

@@ -78,7 +78,7 @@ fn shows_its_rows_by_their_ids(rt: HostRuntime) -> Result<(), Fail> {
     let text = format!(in rt.alloc(); "{table:?}")?;
     assert!(rt;
         text.as_str()
-            == "{4: Row { first: 5, second: 6, value: 7 }, 9: Row { first: 1, second: 2, value: 3 }}"
+            == "{4: Keyed { first: 5, second: 6, value: 7 }, 9: Keyed { first: 1, second: 2, value: 3 }}"
     );
     Ok(())
 }

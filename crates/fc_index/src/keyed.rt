@@ -1,8 +1,8 @@
 //! What a row has beside its id.
 
-/// The two second keys of a row, and its value.
+/// A value with the two second keys of its row.
 #[derive(Clone, Copy, Debug, PartialEq, Eq, Drop)]
-pub struct Row<A, B, V> {
+pub struct Keyed<A, B, V> {
     pub first: A,
     pub second: B,
     pub value: V,
