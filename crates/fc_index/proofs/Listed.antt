@@ -1,17 +1,18 @@
 -- An index lists the rows by their keys still, once a row was put or cut.
-use Rattle.std.proofs.Common.{◌≡◌, Bool, true, false, cond, List, [], ◌∷◌, Option, Some, None, map, refl, sym, ap, ◌∙◌}
-use Rattle.std.specs.Prelude.{not, ◌&&◌, ◌||◌, is_some, ⊤}
+use Rattle.std.proofs.Common.{◌≡◌, Bool, true, false, cond, List, [], ◌∷◌, Option, Some, None, map, refl, sym, ap, ◌∙◌, subst, length, suc, arith}
+use Rattle.std.specs.Prelude.{not, ◌&&◌, ◌||◌, is_some, ⊤, ◌+◌, ◌≤◌}
 use Rattle.std.specs.Option.{option_map}
 use Rattle.std.specs.Cmp.{IsTotalOrder}
-use Rattle.std.specs.Ordering.{is_eq, ordering_then}
+use Rattle.std.specs.Ordering.{is_eq, is_lt, is_gt, ordering_then}
 use Rattle.std.specs.declared.cmp.Ordering.{Ordering}
 use Rattle.std.specs.declared.cmp.Ordering.TheVariants.{Less, Equal, Greater}
 use Rattle.std.proofs.lemmas.Cmp.{on_total, then_total}
+use Rattle.std.proofs.lemmas.List.{length-append}
 use Rattle.fc_base.specs.OneKey.{put, cut}
 use Rattle.fc_base.specs.Parts.{at, value_at}
 use Rattle.fc_base.proofs.AscendingFacts.{is_equal}
 use Rattle.fc_base.proofs.Laws.{value_at_equal, value_at_put_equal, value_at_put_other, at_cut, value_at_cut_other}
-use Rattle.fc_set.specs.Items.{item_at, without, with_item}
+use Rattle.fc_set.specs.Items.{item_at, smaller, greater, without, with_item}
 use Rattle.fc_set.proofs.ItemFacts.{keys, item_at_keys, with_item_keys, without_keys}
 use Rattle.fc_index.specs.Rows.{key_then_id, has_key, Lists, without_old}
 
@@ -70,6 +71,20 @@ module _ {T : Type 0} (cmp : T → T → Ordering) (total : IsTotalOrder cmp) (s
       ∙ elim (is_eq (cmp y x)) as (λ b. is_some (cond b None (value_at cmp (pairs s) y)) ≡ (not b && is_some (item_at cmp s y)))
       [ true ↦ refl | false ↦ of_items ]
 
+-- No item comes in where one is taken out.
+pub without_at_most : {T Q : Type 0} (cmp : T → Q → Ordering) (s : List T) (q : Q) → length (without cmp s q) ≤ length s
+without_at_most {T = T} cmp s q = subst (λ n. n ≤ length s) (sym (length-append (smaller cmp s q) (greater cmp s q))) (both s)
+  where
+    both : (l : List T) → length (smaller cmp l q) + length (greater cmp l q) ≤ length l
+    both [] = omega (arith)
+    both (x ∷ l) = go (cmp x q) (both l)
+      where
+        go : (o : Ordering) → length (smaller cmp l q) + length (greater cmp l q) ≤ length l
+            → length (cond (is_lt o) (x ∷ smaller cmp l q) (smaller cmp l q)) + length (cond (is_gt o) (x ∷ greater cmp l q) (greater cmp l q)) ≤ suc (length l)
+        go Less e = omega (arith, e)
+        go Equal e = omega (arith, e)
+        go Greater e = omega (arith, e)
+
 module _ {K I R : Type 0} (cmp : K → K → Ordering) (ids : I → I → Ordering) (key : R → K) (total : IsTotalOrder cmp) (totals : IsTotalOrder ids) where
   abbrev order : K × I → K × I → Ordering
   order = key_then_id cmp ids
@@ -92,16 +107,16 @@ module _ {K I R : Type 0} (cmp : K → K → Ordering) (ids : I → I → Orderi
   one_fewer true false old k v held same = refl
   one_fewer false false old k v held same = refl
 
-  module _ (rows : List (I × R)) (index : List (K × I)) (listed : Lists cmp ids key rows index) (i : I) where
-    held_at : (v : Option R) → value_at ids rows i ≡ v → (j : I) → is_eq (ids j i) ≡ true → value_at ids rows j ≡ v
-    held_at v held j e = value_at_equal ids rows i j totals (is_equal (ids j i) e) ∙ held
+  held_at : (rows : List (I × R)) (i : I) (v : Option R) → value_at ids rows i ≡ v → (j : I) → is_eq (ids j i) ≡ true → value_at ids rows j ≡ v
+  held_at rows i v held j e = value_at_equal ids rows i j totals (is_equal (ids j i) e) ∙ held
 
+  module _ (rows : List (I × R)) (index : List (K × I)) (listed : Lists cmp ids key rows index) (i : I) where
     -- A row that is taken out takes its item with it.
     pub lists_cut : (old : R) → value_at ids rows i ≡ Some old → Lists cmp ids key (cut ids rows i) (without order index (key old, i))
     lists_cut old held = record {
       exact = λ k j. there_without order order_total index (key old, i) (k, j)
           ∙ rw (both_equal (cmp k (key old)) (ids j i), listed.exact k j, value_cut ids totals rows i j)
-          (one_fewer (is_eq (cmp k (key old))) (is_eq (ids j i)) old k (value_at ids rows j) (held_at (Some old) held j) refl);
+          (one_fewer (is_eq (cmp k (key old))) (is_eq (ids j i)) old k (value_at ids rows j) (held_at rows i (Some old) held j) refl);
     }
 
     -- A row at a new id brings its item along.
@@ -109,8 +124,18 @@ module _ {K I R : Type 0} (cmp : K → K → Ordering) (ids : I → I → Orderi
     lists_new r none = record {
       exact = λ k j. there_with order order_total index (key r, i) (k, j)
           ∙ rw (both_equal (cmp k (key r)) (ids j i), listed.exact k j, value_put ids totals rows i j r)
-          (one_more (is_eq (cmp k (key r))) (is_eq (ids j i)) r k (value_at ids rows j) (held_at None none j) refl);
+          (one_more (is_eq (cmp k (key r))) (is_eq (ids j i)) r k (value_at ids rows j) (held_at rows i None none j) refl);
     }
+
+    -- A row in the place of one with the same key leaves the index as it is.
+    pub lists_kept : (old r : R) → value_at ids rows i ≡ Some old → key r ≡ key old → Lists cmp ids key (put ids rows i r) index
+    lists_kept old r held same = record {
+      exact = λ k j. listed.exact k j ∙ rw (value_put ids totals rows i j r) (go k (is_eq (ids j i)) (value_at ids rows j) (held_at rows i (Some old) held j));
+    }
+      where
+        go : (k : K) (b : Bool) (v : Option R) → (b ≡ true → v ≡ Some old) → has_key cmp key v k ≡ has_key cmp key (cond b (Some r) v) k
+        go k true v h = ap (λ w. has_key cmp key w k) (h refl) ∙ ap (λ a. is_eq (cmp k a)) (sym same)
+        go k false v h = refl
 
   -- at each id stands the same where a row is cut before another one is put there
   put_cut : (rows : List (I × R)) (i : I) (r : R) (j : I) → value_at ids (put ids (cut ids rows i) i r) j ≡ value_at ids (put ids rows i r) j
