@@ -3,9 +3,11 @@ use Rattle.std.specs.Prelude.{◌≡◌, ◌&&◌, Bool, false, List, Option, So
 use Rattle.std.specs.Ordering.{is_eq, ordering_then}
 use Rattle.std.specs.declared.cmp.Ordering.{Ordering}
 use Rattle.std.specs.declared.ops.Bound.{Bound}
+use Rattle.fc_base.specs.OneKey.{put}
 use Rattle.fc_base.specs.Parts.{value_at}
 use Rattle.fc_base.specs.Ranges.{starts, stops}
 use Rattle.fc_set.specs.Items.{item_at, without, AreAscending}
+use Rattle.fc_index.specs.declared.keyed.Keyed.{Keyed}
 
 -- The order of a key and an id: that of the keys, and where these are equal, that of the ids.
 abbrev pub key_then_id : {K I : Type 0} → (K → K → Ordering) → (I → I → Ordering) → K × I → K × I → Ordering
@@ -34,3 +36,10 @@ module _ {K I R : Type 0} (cmp : K → K → Ordering) (ids : I → I → Orderi
 abbrev pub without_old : {K I : Type 0} → (K → K → Ordering) → (I → I → Ordering) → List (K × I) → Option K → I → List (K × I)
 without_old cmp ids index None id = index
 without_old cmp ids index (Some old) id = without (key_then_id cmp ids) index (old, id)
+
+-- The row at an id, which has its keys still, has another value in the place of an old one.
+pub record IsValueSet {I A B V : Type 0} (ids : I → I → Ordering) (id : I) (old value : V) (before after : List (I × Keyed A B V)) : Type 0 where
+  pub row : Keyed A B V
+  pub there : value_at ids before id ≡ Some row
+  pub had : row.value ≡ old
+  pub set : after ≡ put ids before id (record { first = row.first; second = row.second; value = value })

@@ -1,10 +1,10 @@
 //! The table: rows by their ids, and an index for each second key.
-ghost use Rattle.std.specs.Prelude.{◌≡◌, [], length, IfOk, IfErr, OnOk, OnErr, IsTrue, IsSome, ◌↔◌};
+ghost use Rattle.std.specs.Prelude.{◌≡◌, [], length, IfOk, IfErr, OnOk, OnErr, IsTrue, IsSome, None, ◌↔◌};
 ghost use Rattle.fc_base.specs.Ascending.{IsAscending};
 ghost use Rattle.fc_base.specs.OneKey.{put, cut};
 ghost use Rattle.fc_base.specs.Parts.{at, value_at};
 ghost use Rattle.fc_map.specs.Entries.{now_value};
-ghost use Rattle.fc_index.specs.Rows.{AreByKey, lies};
+ghost use Rattle.fc_index.specs.Rows.{AreByKey, IsValueSet, lies};
 
 use crate::edge::items_between;
 use crate::keyed::Keyed;
@@ -14,6 +14,7 @@ use fc_map::map::{BTreeMap, Iter};
 use fc_set::set::{BTreeSet, Range};
 use std::alloc::Global;
 use std::marker::Model;
+use std::mem;
 use std::ops::Bound;
 
 /// Rows by an id, each with two second keys, by which they are found in order too. Several rows may have one second key. Only
@@ -95,6 +96,21 @@ impl<I: Ord + Copy, A: Ord, B: Ord, V, H: Handle> Table<I, A, B, V, H> {
 }
 
 impl<I: Ord + Copy, A: Ord + Copy, B: Ord + Copy, V, H: Handle> Table<I, A, B, V, H> {
+    /// Puts another value into the row at an equal id, which keeps its keys, and answers the value that was there. It takes no memory.
+    ///
+    /// # Errors
+    /// Where no row is there. The table is then as it was, and the value comes back.
+    pub fn set_value(&mut self, id: I, value: V) -> Result<V, V>
+        ensures set { IfOk result (λ old. IsValueSet I.cmp id old value self.old self.new) }
+        ensures unchanged { OnErr result ((at I.cmp self.old id ≡ None) × (self.new ≡ self.old)) }
+        ensures back { IfErr result (λ back. back ≡ value) }
+    {
+        match self.rows.get_mut(&id) {
+            Some(row) => Ok(mem::replace(&mut row.value, value)),
+            None => Err(value),
+        }
+    }
+
     /// A walk from both ends over the rows whose first keys lie within the bounds, each as its first key and its id, in the order of the
     /// keys, and of the ids where keys are equal. Bounds that are no range make a walk that is empty.
     pub fn by_first(&self, bounds: (Bound<A>, Bound<A>)) -> Range<'_, (A, I), H>

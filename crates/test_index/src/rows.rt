@@ -71,6 +71,28 @@ fn a_row_is_replaced(rt: HostRuntime) {
 }
 
 #[test]
+fn a_value_is_set(rt: HostRuntime) {
+    let mut table: Parts = Parts::new(rt.alloc());
+    let is_in = table.try_insert(4, 1, 2, 10).is_ok() && table.try_insert(6, 1, 3, 11).is_ok();
+    assert!(rt; is_in);
+    let old = table.set_value(4, 12);
+    let refused = table.set_value(5, 13);
+    assert!(rt; old == Ok(10) && refused == Err(13));
+    let mut plain = [None; IDS];
+    plain[4] = Some(Part {
+        first: 1,
+        second: 2,
+        value: 12,
+    });
+    plain[6] = Some(Part {
+        first: 1,
+        second: 3,
+        value: 11,
+    });
+    assert!(rt; is_like(&table, &plain));
+}
+
+#[test]
 fn shows_its_rows_by_their_ids(rt: HostRuntime) -> Result<(), Fail> {
     let mut table: Parts = Parts::new(rt.alloc());
     let is_in = table.try_insert(9, 1, 2, 3).is_ok() && table.try_insert(4, 5, 6, 7).is_ok();
