@@ -78,7 +78,7 @@ impl<I: Ord, A: Ord, B: Ord, V, H: Handle> Table<I, A, B, V, H> {
 
 impl<I: Ord + Copy, A: Ord, B: Ord, V, H: Handle> Table<I, A, B, V, H> {
     /// The row at an equal id. `None` where there is none. No call lends a row for writing, since its keys could then become others than
-    /// those that the indexes list: `try_insert` puts another row in its place.
+    /// those that the indexes list: `set_value` puts another value into it, and `try_insert` another row in its place.
     pub fn get(&self, id: I) -> Option<&Keyed<A, B, V>>
         ensures row { now_value result ≡ value_at I.cmp self.now id }
         ensures ascending { IsAscending I.cmp self.now }
