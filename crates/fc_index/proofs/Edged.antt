@@ -96,10 +96,15 @@ module _ {X : Type 0} (q p : X → Bool) (b : Bool) (like : (x : X) → q x ≡ 
 module _ {K I R : Type 0} (cmp : K → K → Ordering) (ids : I → I → Ordering) (key : R → K) (total : IsTotalOrder cmp)
     (rows : List (I × R)) (index : List (K × I)) (listed : Lists cmp ids key rows index) (up : AreAscending (key_then_id cmp ids) index) where
   -- The items between two edges of an index are those of the rows whose keys lie within the bounds.
-  pub walk_by_key : (lo hi : Bound K) → AreByKey cmp ids key (lies cmp lo hi) rows (items_within (edge_order cmp) (start_edge lo) (end_edge hi) index)
+  walk_by_key : (lo hi : Bound K) → AreByKey cmp ids key (lies cmp lo hi) rows (items_within (edge_order cmp) (start_edge lo) (end_edge hi) index)
   walk_by_key lo hi = subst (λ walk. AreByKey cmp ids key (lies cmp lo hi) rows walk) (sym (edged cmp lo hi index)) (record {
     ascending = ascending_kept (key_then_id cmp ids) (λ x. lies cmp lo hi x.0) index up;
     exact = λ k i. found_filtered (λ x. is_eq (key_then_id cmp ids x (k, i))) (λ x. lies cmp lo hi x.0) (lies cmp lo hi k)
         (λ x h. lies_equal cmp total x.0 k (first_equal (cmp x.0 k) (ids x.1 i) h) lo hi) index
         ∙ ap (λ b. lies cmp lo hi k && b) (listed.exact k i);
   })
+
+  -- The same of rows and a walk of which it is known that they are these.
+  pub walked_by_key : (lo hi : Bound K) (now : List (I × R)) (walk : List (K × I)) → rows ≡ now
+      → walk ≡ items_within (edge_order cmp) (start_edge lo) (end_edge hi) index → AreByKey cmp ids key (lies cmp lo hi) now walk
+  walked_by_key lo hi now walk same is = rw (← same, is) (walk_by_key lo hi)

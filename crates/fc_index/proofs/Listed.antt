@@ -72,7 +72,7 @@ module _ {T : Type 0} (cmp : T → T → Ordering) (total : IsTotalOrder cmp) (s
       [ true ↦ refl | false ↦ of_items ]
 
 -- No item comes in where one is taken out.
-pub without_at_most : {T Q : Type 0} (cmp : T → Q → Ordering) (s : List T) (q : Q) → length (without cmp s q) ≤ length s
+without_at_most : {T Q : Type 0} (cmp : T → Q → Ordering) (s : List T) (q : Q) → length (without cmp s q) ≤ length s
 without_at_most {T = T} cmp s q = subst (λ n. n ≤ length s) (sym (length-append (smaller cmp s q) (greater cmp s q))) (both s)
   where
     both : (l : List T) → length (smaller cmp l q) + length (greater cmp l q) ≤ length l
@@ -84,6 +84,11 @@ without_at_most {T = T} cmp s q = subst (λ n. n ≤ length s) (sym (length-appe
         go Less e = omega (arith, e)
         go Equal e = omega (arith, e)
         go Greater e = omega (arith, e)
+
+pub without_old_at_most : {K I : Type 0} (cmp : K → K → Ordering) (ids : I → I → Ordering) (index : List (K × I)) (old : Option K) (id : I)
+    → length (without_old cmp ids index old id) ≤ length index
+without_old_at_most cmp ids index None id = omega (arith)
+without_old_at_most cmp ids index (Some old) id = without_at_most (key_then_id cmp ids) index (old, id)
 
 module _ {K I R : Type 0} (cmp : K → K → Ordering) (ids : I → I → Ordering) (key : R → K) (total : IsTotalOrder cmp) (totals : IsTotalOrder ids) where
   abbrev order : K × I → K × I → Ordering
@@ -112,7 +117,7 @@ module _ {K I R : Type 0} (cmp : K → K → Ordering) (ids : I → I → Orderi
 
   module _ (rows : List (I × R)) (index : List (K × I)) (listed : Lists cmp ids key rows index) (i : I) where
     -- A row that is taken out takes its item with it.
-    pub lists_cut : (old : R) → value_at ids rows i ≡ Some old → Lists cmp ids key (cut ids rows i) (without order index (key old, i))
+    lists_cut : (old : R) → value_at ids rows i ≡ Some old → Lists cmp ids key (cut ids rows i) (without order index (key old, i))
     lists_cut old held = record {
       exact = λ k j. there_without order order_total index (key old, i) (k, j)
           ∙ rw (both_equal (cmp k (key old)) (ids j i), listed.exact k j, value_cut ids totals rows i j)
@@ -120,7 +125,7 @@ module _ {K I R : Type 0} (cmp : K → K → Ordering) (ids : I → I → Orderi
     }
 
     -- A row at a new id brings its item along.
-    pub lists_new : (r : R) → value_at ids rows i ≡ None → Lists cmp ids key (put ids rows i r) (with_item order index (key r, i))
+    lists_new : (r : R) → value_at ids rows i ≡ None → Lists cmp ids key (put ids rows i r) (with_item order index (key r, i))
     lists_new r none = record {
       exact = λ k j. there_with order order_total index (key r, i) (k, j)
           ∙ rw (both_equal (cmp k (key r)) (ids j i), listed.exact k j, value_put ids totals rows i j r)
@@ -128,7 +133,7 @@ module _ {K I R : Type 0} (cmp : K → K → Ordering) (ids : I → I → Orderi
     }
 
     -- A row in the place of one with the same key leaves the index as it is.
-    pub lists_kept : (old r : R) → value_at ids rows i ≡ Some old → key r ≡ key old → Lists cmp ids key (put ids rows i r) index
+    lists_kept : (old r : R) → value_at ids rows i ≡ Some old → key r ≡ key old → Lists cmp ids key (put ids rows i r) index
     lists_kept old r held same = record {
       exact = λ k j. listed.exact k j ∙ rw (value_put ids totals rows i j r) (go k (is_eq (ids j i)) (value_at ids rows j) (held_at rows i (Some old) held j));
     }
@@ -146,7 +151,7 @@ module _ {K I R : Type 0} (cmp : K → K → Ordering) (ids : I → I → Orderi
       ∙ sym (value_put ids totals rows i j r)
 
   -- A row that is put takes out the item of the one that it replaces, if there is one, and brings its own along.
-  pub lists_put : (rows : List (I × R)) (index : List (K × I)) → Lists cmp ids key rows index → (i : I) (r : R)
+  lists_put : (rows : List (I × R)) (index : List (K × I)) → Lists cmp ids key rows index → (i : I) (r : R)
       → Lists cmp ids key (put ids rows i r) (with_item order (without_old cmp ids index (option_map key (value_at ids rows i)) i) (key r, i))
   lists_put rows index listed i r = go (value_at ids rows i) refl
     where
@@ -156,3 +161,16 @@ module _ {K I R : Type 0} (cmp : K → K → Ordering) (ids : I → I → Orderi
       go (Some old) e =
           let both = lists_new (cut ids rows i) _ (lists_cut rows index listed i old e) i r (ap (option_map (λ x. x.1)) (at_cut ids rows i)) in
           record { exact = λ k j. both.exact k j ∙ ap (λ v. has_key cmp key v k) (put_cut rows i r j) }
+
+  -- The same of lists of which it is known that they are these.
+  module _ (rows : List (I × R)) (index : List (K × I)) (listed : Lists cmp ids key rows index) (i : I) (more : List (I × R)) where
+    pub listed_put : (r : R) (items : List (K × I)) (old : Option K) → more ≡ put ids rows i r → items ≡ with_item order (without_old cmp ids index old i) (key r, i)
+        → old ≡ option_map key (value_at ids rows i) → Lists cmp ids key more items
+    listed_put r items old a b e = rw (a, b, e) (lists_put rows index listed i r)
+
+    pub listed_cut : (old : R) (items : List (K × I)) → more ≡ cut ids rows i → items ≡ without order index (key old, i) → value_at ids rows i ≡ Some old
+        → Lists cmp ids key more items
+    listed_cut old items a b held = rw (a, b) (lists_cut rows index listed i old held)
+
+    pub listed_kept : (old r : R) → more ≡ put ids rows i r → value_at ids rows i ≡ Some old → key r ≡ key old → Lists cmp ids key more index
+    listed_kept old r a held same = rw a (lists_kept rows index listed i old r held same)

@@ -51,10 +51,22 @@ pub(crate) fn exchange<K: Ord + Copy, I: Ord + Copy, H: Handle>(
     requires fits { length (items index.old) < nodes.old.pairs }
     ensures { items index.new ≡ with_item (key_then_id K.cmp I.cmp) (without_old K.cmp I.cmp (items index.old) old id) (new, id) }
 {
-    if let Some(key) = old {
-        index.remove(&(key, id));
-    }
+    take_out(index, old, id);
     index.insert_reserved(nodes, (new, id));
+}
+
+// Takes the item of an old key and the id out, if there is an old key.
+fn take_out<K: Ord + Copy, I: Ord + Copy, H: Handle>(
+    index: &mut BTreeSet<(K, I), H>,
+    old: Option<K>,
+    id: I,
+)
+    ensures { items index.new ≡ without_old K.cmp I.cmp (items index.old) old id }
+{
+    let Some(key) = old else {
+        return;
+    };
+    index.remove(&(key, id));
 }
 
 /// The first key of a row, if there is a row.

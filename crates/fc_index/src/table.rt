@@ -105,10 +105,10 @@ impl<I: Ord + Copy, A: Ord + Copy, B: Ord + Copy, V, H: Handle> Table<I, A, B, V
         ensures unchanged { OnErr result ((at I.cmp self.old id ≡ None) × (self.new ≡ self.old)) }
         ensures back { IfErr result (λ back. back ≡ value) }
     {
-        match self.rows.get_mut(&id) {
-            Some(row) => Ok(mem::replace(&mut row.value, value)),
-            None => Err(value),
-        }
+        let Some(row) = self.rows.get_mut(&id) else {
+            return Err(value);
+        };
+        Ok(mem::replace(&mut row.value, value))
     }
 
     /// A walk from both ends over the rows whose first keys lie within the bounds, each as its first key and its id, in the order of the
@@ -146,7 +146,7 @@ impl<I: Ord + Copy, A: Ord + Copy, B: Ord + Copy, V: Drop, H: Handle> Table<I, A
         ensures put { OnOk result (self.new ≡ put I.cmp self.old id (record { first = first; second = second; value = value })) }
         ensures unchanged { OnErr result (self.new ≡ self.old) }
         ensures back { IfErr result (λ e. e.0 ≡ value) }
-        ensures ascending { IsAscending I.cmp self.new }
+        ensures ascending { OnOk result (IsAscending I.cmp self.new) }
     {
         match try_reserve(&self.rows, &self.firsts, &self.seconds) {
             Ok((mut row_nodes, mut first_nodes, mut second_nodes)) => {
