@@ -14,7 +14,8 @@ use Rattle.fc_base.proofs.AscendingFacts.{is_equal}
 use Rattle.fc_base.proofs.Laws.{value_at_equal, value_at_put_equal, value_at_put_other, at_cut, value_at_cut_other}
 use Rattle.fc_set.specs.Items.{item_at, smaller, greater, without, with_item}
 use Rattle.fc_set.proofs.ItemFacts.{keys, item_at_keys, with_item_keys, without_keys}
-use Rattle.fc_index.specs.Rows.{key_then_id, has_key, Lists, without_old}
+use Rattle.fc_index.specs.Rows.{key_then_id, has_key, Lists, without_old, IsValueSet}
+use Rattle.fc_index.specs.declared.keyed.Keyed.{Keyed}
 
 -- two answers are equal together where both are
 both_equal : (o p : Ordering) → is_eq (ordering_then o p) ≡ (is_eq o && is_eq p)
@@ -174,3 +175,14 @@ module _ {K I R : Type 0} (cmp : K → K → Ordering) (ids : I → I → Orderi
 
     pub listed_kept : (old r : R) → more ≡ put ids rows i r → value_at ids rows i ≡ Some old → key r ≡ key old → Lists cmp ids key more index
     listed_kept old r a held same = rw a (lists_kept rows index listed i old r held same)
+
+-- A value that is put with the keys of a row is set.
+pub value_set : {I A B V : Type 0} (ids : I → I → Ordering) (id : I) (old value given : V) (rows before after : List (I × Keyed A B V)) (row : Keyed A B V)
+    → rows ≡ before → value_at ids rows id ≡ Some row → old ≡ row.value → given ≡ value
+    → after ≡ put ids rows id (record { first = row.first; second = row.second; value = given }) → IsValueSet ids id old value before after
+value_set ids id old value given rows before after row same held had is set = rw (← same, ← is) (record {
+  row = row;
+  there = held;
+  had = sym had;
+  set = set;
+})
