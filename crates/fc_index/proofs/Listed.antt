@@ -177,8 +177,8 @@ module _ {K I R : Type 0} (cmp : K → K → Ordering) (ids : I → I → Orderi
     listed_kept old r a held same = rw a (lists_kept rows index listed i old r held same)
 
 -- A value that is put with the keys of a row is set.
-pub value_set : {I A B V : Type 0} (ids : I → I → Ordering) (id : I) (old value given : V) (rows before after : List (I × Keyed A B V)) (row : Keyed A B V)
-    → rows ≡ before → value_at ids rows id ≡ Some row → old ≡ row.value → given ≡ value
+pub value_set : {I A B V : Type 0} (ids : I → I → Ordering) (id : I) (old value given : V) (rows before after : List (I × Keyed A B V))
+    (row : Keyed A B V) → rows ≡ before → value_at ids rows id ≡ Some row → old ≡ row.value → given ≡ value
     → after ≡ put ids rows id (record { first = row.first; second = row.second; value = given }) → IsValueSet ids id old value before after
 value_set ids id old value given rows before after row same held had is set = rw (← same, ← is) (record {
   row = row;
