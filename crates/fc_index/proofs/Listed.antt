@@ -165,8 +165,8 @@ module _ {K I R : Type 0} (cmp : K → K → Ordering) (ids : I → I → Orderi
 
   -- The same of lists of which it is known that they are these.
   module _ (rows : List (I × R)) (index : List (K × I)) (listed : Lists cmp ids key rows index) (i : I) (more : List (I × R)) where
-    pub listed_put : (r : R) (items : List (K × I)) (old : Option K) → more ≡ put ids rows i r → items ≡ with_item order (without_old cmp ids index old i) (key r, i)
-        → old ≡ option_map key (value_at ids rows i) → Lists cmp ids key more items
+    pub listed_put : (r : R) (items : List (K × I)) (old : Option K) → more ≡ put ids rows i r
+        → items ≡ with_item order (without_old cmp ids index old i) (key r, i) → old ≡ option_map key (value_at ids rows i) → Lists cmp ids key more items
     listed_put r items old a b e = rw (a, b, e) (lists_put rows index listed i r)
 
     pub listed_cut : (old : R) (items : List (K × I)) → more ≡ cut ids rows i → items ≡ without order index (key old, i) → value_at ids rows i ≡ Some old

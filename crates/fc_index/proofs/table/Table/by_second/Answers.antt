@@ -7,5 +7,6 @@ pub returns : goal.returns
 returns g c =
     record {
       rows = walked_by_key g.B.Ord.cmp g.I.Ord.cmp (λ r. r.second) g.met.B.Ord.total (entries c.self.inside.rows) (items c.self.inside.seconds)
-          c.self.invariant.1 c.items_between.ensures.ascending c.args.bounds.0 c.args.bounds.1 c.args.self.now c.items_between.result c.self.view_is c.items_between.ensures.items;
+          c.self.invariant.1 c.items_between.ensures.ascending
+          c.args.bounds.0 c.args.bounds.1 c.args.self.now c.items_between.result c.self.view_is c.items_between.ensures.items;
     }
