@@ -2,14 +2,17 @@
 //! number, and rows as they are printed.
 #![allow(dead_code, unused_imports)] // Each driver uses a part of it.
 pub mod counted;
+pub mod folded;
 pub mod heap;
 pub mod keys;
 pub mod one_key;
 pub mod phases;
 pub mod random;
 pub mod rounds;
+pub mod sizes;
 
 pub use counted::{count, tell, tell_second};
+pub use folded::Folded;
 pub use keys::Keys;
 pub use phases::{machine, mark};
 pub use random::Random;

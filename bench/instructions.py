@@ -25,7 +25,10 @@ COUNTS = [
     ("walks over the map, a pair", "walks_driver", "bench_jobs"),
     ("walks over sets, an item given", "sets_driver", "bench_jobs"),
     ("whole maps, a pair", "whole_driver", "bench_jobs"),
-    ("the map of stretches, a call", "intervals_driver", "bench_intervals"),
+    ("the map of stretches, a call", "intervals_driver", "bench_uses"),
+    ("timers, a call", "timers_driver", "bench_uses"),
+    ("the table of rows, a call", "tables_driver", "bench_uses"),
+    ("the cache, a call", "caches_driver", "bench_uses"),
     ("maps in a budget / the same jobs at Global, a call or a pair", "budget_driver", "bench_budget"),
 ]
 CACHE = ["--cache-sim=yes", "--LL=1048576,16,64"]

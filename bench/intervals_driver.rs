@@ -7,18 +7,15 @@
 mod harness;
 mod jobs;
 
-use harness::{Form, Random, Runs, compare, mark, mixed, print_head, start, tell};
+use harness::sizes::{self, count, print_times};
+use harness::{Random, Runs, mark, mixed, start};
 use jobs::bench_intervals_run;
 use std::collections::BTreeMap;
-use std::hint::black_box;
 use std::ops::Range;
 
-// Stretches, rounds of runs, and what is told behind the names of their rows.
-const SIZES: [(u64, usize, &str); 2] = [(1_000, 200, ""), (100_000, 10, ", 100000 stretches")];
 const APART: u64 = 8;
 const SHORT: u64 = 5;
 const LONG: u64 = 20;
-const FORM: Form = (34, 7, 1);
 const NAMES: [&str; 5] = ["put where none is", "get", "overlapping of three", "put over three", "cut of three"];
 
 struct Job {
@@ -29,7 +26,11 @@ struct Job {
     cuts: Vec<u64>,
 }
 
-impl Job {
+impl sizes::Job for Job {
+    const ITEMS: &'static str = "stretches";
+    const SIZES: [(u64, usize); 2] = [(1_000, 200), (100_000, 10)];
+    const RUNS: Runs<Job> = [run_ours, run_std];
+
     // So many stretches and look-ups, and a quarter as many ranges of each kind: so that there are stretches to the end.
     fn new(stretches: u64) -> Job {
         let mut random = Random(stretches);
@@ -46,13 +47,9 @@ impl Job {
         }
     }
 
-    fn lists(&self) -> [&[u64]; 5] {
-        [&self.starts, &self.points, &self.ranges, &self.puts, &self.cuts]
-    }
-
-    // The name of each phase, and how many calls it has.
-    fn rows(&self) -> impl Iterator<Item = (&'static str, usize)> {
-        NAMES.into_iter().zip(self.lists().map(<[u64]>::len))
+    fn rows(&self) -> Vec<(&'static str, usize)> {
+        let lists = [&self.starts, &self.points, &self.ranges, &self.puts, &self.cuts];
+        NAMES.into_iter().zip(lists.map(Vec::len)).collect()
     }
 }
 
@@ -130,32 +127,6 @@ fn run_std(job: &Job) -> u64 {
     walk_over(&map, 0..u64::MAX, checksum)
 }
 
-const RUNS: Runs<Job> = [run_ours, run_std];
-
-fn print_times() {
-    print_head("nanoseconds a call, best of so many runs: ours / over std's BTreeMap (ours as a multiple)");
-    for (stretches, rounds, _) in SIZES {
-        println!("{stretches} stretches, {rounds} runs");
-        let job = Job::new(stretches);
-        for (phase, (name, calls)) in compare(&job, rounds, RUNS).iter().zip(job.rows()) {
-            phase.print_least(name, FORM, calls);
-        }
-    }
-}
-
-fn count() {
-    for (stretches, _, title) in SIZES {
-        let job = Job::new(stretches);
-        let names: Vec<(String, usize)> = job.rows().map(|(name, calls)| (format!("{name}{title}"), calls)).collect();
-        let rows: Vec<(&str, usize)> = names.iter().map(|(name, calls)| (name.as_str(), *calls)).collect();
-        let mut seen = [0; 2];
-        for (who, run) in RUNS.into_iter().enumerate() {
-            tell(who, &rows, || seen[who] = black_box(run(&job)));
-        }
-        assert_eq!(seen[0], seen[1], "what the two sides gave differs");
-    }
-}
-
 fn main() {
-    start(&[("count", count)], print_times);
+    start(&[("count", count::<Job>)], print_times::<Job>);
 }

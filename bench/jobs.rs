@@ -1,4 +1,4 @@
-//! The jobs of the crates `bench_jobs`, `bench_budget`, `bench_intervals` and `bench_own`, of which each driver calls some.
+//! The jobs of the crates `bench_jobs`, `bench_budget`, `bench_uses` and `bench_own`, of which each driver calls some.
 #![allow(dead_code)]
 
 /// What a job asks for where a phase begins or ends, as `mark` of these crates does.
@@ -50,6 +50,9 @@ jobs! {
     bench_budget_walk([keys: u64], times: u64, is_in_budget: bool) -> u64;
     bench_budget_whole([keys: u64, others: u64], way: u64, is_in_budget: bool) -> u64;
     bench_intervals_run([starts: u64, points: u64, ranges: u64, puts: u64, cuts: u64], short: u64, long: u64) -> u64;
+    bench_timers_run([times: u64, moved: usize, later: u64, cancelled: usize], now: u64) -> u64;
+    bench_tables_run([ids: u64, firsts: u64, seconds: u64, sought: u64, keys: u64, removed: u64]) -> u64;
+    bench_caches_run([keys: u64, others: u64, sought: u64, missing: u64], budget: usize) -> u64;
     bench_own_run([keys: u64, sought: u64, removed: u64]) -> u64;
 }
 

@@ -2,7 +2,8 @@
 """Makes the tables of docs/PERFORMANCE.md out of what the scripts printed, so that nobody copies a number.
 
   bench/instructions.py >bench/figures/instructions      (and so bench/own.py, and bench/run of walks, sets, map and whole: each into a file of its name)
-  bench/instructions.py --unproved budget_driver >bench/figures/instructions_budget, and so of intervals_driver
+  bench/instructions.py --unproved budget_driver >bench/figures/instructions_budget, and so of intervals_driver, timers_driver, tables_driver and
+                                 caches_driver in one run into instructions_uses
   bench/table.py                 prints the tables
   bench/table.py --write         writes them into the page
 
@@ -47,7 +48,8 @@ def aims():
 
 
 # What was counted for itself, by how its title begins.
-APART = {"maps in a budget": "instructions_budget", "the map of stretches": "instructions_intervals"}
+USES = ["the map of stretches", "timers, a call", "the table of rows", "the cache"]
+APART = {"maps in a budget": "instructions_budget", **dict.fromkeys(USES, "instructions_uses")}
 
 
 def counts_of(title):

@@ -19,18 +19,21 @@ UNCOUNTED = {
     "fc_base/src/count.rt": {"compare"},
     "fc_base/src/query.rt": {"order_of", "compare_slices"},
     # the searches for the ends of a range, and whether it is one
-    "fc_tree_cursor/src/cuts.rt": {"first_not_below", "first_above"},
+    "fc_tree_cursor/src/cuts.rt": {"first_not_ahead"},
     "fc_map/src/map/bounds.rt": {"is_range"},
     # items that ascend, put behind the last, whose comparisons no contract tells of
     "fc_tree_build/src/growing.rt": {"is_behind"},
     "fc_map/src/map/bulk_insert.rt": {"is_behind"},
     "fc_map/src/map/clones.rt": {"is_behind_all"},
+    # items of an index, whose comparisons no contract tells of
+    "fc_index/src/edge.rt": {"order_of"},
     # times of timers, and ranges that are written, or walked over, whose comparisons no contract tells of
     "fc_timers/src/order.rt": {"precedes"},
     "fc_timers/src/queue.rt": {"pop_due"},
     "fc_intervals/src/gaps.rt": {"next"},
     "fc_intervals/src/map.rt": {"put", "cut"},
-    "fc_intervals/src/steps.rt": {"rest_behind", "end_at"},
+    "fc_intervals/src/joins.rt": {"joint_end"},
+    "fc_intervals/src/steps.rt": {"is_free", "rest_behind", "end_at"},
     # collections compared with one another
     "fc_map_iter/src/compare.rt": {"pair_order", "partial_pair_order"},
     "fc_set/src/set/compare.rt": {"partial_cmp", "cmp"},
@@ -53,8 +56,7 @@ OWN = {
     "fc_tree_append/src/join.rt": {"join", "join_under_root"},
     # pairs asked in turn, and the tree rebalanced after, whose moves nothing promises
     "fc_tree_retain/src/rebalancing.rt": {"join"},
-    "fc_tree_retain/src/filtering.rt": {"filter_own", "filter_between", "remove_behind", "take_last"},
-    "fc_tree_retain/src/within.rt": {"filter_after", "take_last_of_thin"},
+    "fc_tree_retain/src/filtering.rt": {"filter_own", "filter_between", "remove_behind", "take_last_of_thin", "take_last_of_loose"},
     # the set operations, whose comparisons of items of two sets nothing promises
     "fc_set/src/set.rt": {"order_of"},
 }

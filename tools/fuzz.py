@@ -21,7 +21,6 @@ keys in each order. --tally prints how often each did. It takes all cores, or --
 Where a reply or an ending differs, lines are dropped for as long as it still differs, in at most 60 seconds, and it prints the run's seed, the lines that are
 left, which can be sent to ./fcrun, the requests that are refused with them, what was wanted and what was told (of long texts the front). The last line is 'N passed, M failed', and the
 status is 0 where M is 0. It needs a C compiler."""
-import argparse
 import collections
 import concurrent.futures
 import os
@@ -33,13 +32,17 @@ import time
 from typing import NamedTuple
 
 sys.dont_write_bytecode = True
+import fuzzing
 import judge
+from fuzzing import SHRINKING, dropped
 from judge import CAPACITY, GREATEST, LISTS, LONGEST, ON_MAPS, ON_SETS, STARTS, Case, bound, ends, items, number, pairs, writes
 
-SHRINKING = 60  # the most seconds of making a failure shorter
 SURVIVALS = 8  # how often the request is given whose refusal ended a run
 DEEP = 1 / 5  # how many of the runs have trees of four levels
 COPIES = 2  # of how many copies at the end of a run the requests are looked at
+# From which request on some are refused. The first are the program's own, and those up to some 20 the ones of a long walk's reply that lines() may begin with.
+REFUSED_FROM = [0, STARTS, 20, 20, 60, 200, 500, 1500]
+GAPS = [2, 8, 30, 100, 400]  # how many requests there are between two that are refused
 NEAR = 12  # how many other requests of a line that became shorter are tried in the place of the one that was refused
 
 
@@ -154,20 +157,6 @@ def parts_of(line):
         return b" ".join(words[:-1]) + b" ", [words[-1][i : i + 1] for i in range(len(words[-1]))], b""
     each = 2 if words[0] == b"extend" and words[1] in (b"a", b"b") else 1  # a pair stays a pair
     return b" ".join(words[:2]) + b" ", [b" ".join(words[i : i + each]) for i in range(2, len(words), each)], b" "
-
-
-def dropped(parts, fails):
-    """Drops parts for as long as the rest fails: halves, then quarters, and so on to single ones."""
-    size = len(parts) // 2
-    while size > 0:
-        at = 0
-        while at < len(parts):
-            rest = parts[:at] + parts[at + size :]
-            if rest and fails(rest):
-                parts = rest
-            else:
-                at += size
-        size //= 2
 
 
 # Random lines.
@@ -361,19 +350,6 @@ class Talk:
         return draw.choice(kinds + [b"walk a * * " + b"f" * (LONGEST - 11 + draw.randrange(2))])
 
 
-def requests_of(draw):
-    """The numbers of the requests that are refused, one by one or several in a row."""
-    gap, row = draw.choice([2, 8, 30, 100, 400]), draw.choice([1, 1, 1, 3, 10])
-    # The first are the program's own, and those up to some 20 the ones of a long walk's reply that lines() may begin with.
-    at, requests = draw.choice([0, STARTS, 20, 20, 60, 200, 500, 1500]), []
-    for _ in range(100):
-        at += draw.randint(1, 2 * gap)
-        for _ in range(draw.randint(1, row)):
-            requests.append(at)
-            at += 1
-    return requests
-
-
 def budget_of(draw, lines, is_short):
     """The bytes that suffice for the lines, or fewer."""
     room = judge.room_for(lines)
@@ -389,7 +365,7 @@ def case_of(seed, has_budget):
     if draw.random() < 0.3:
         at = draw.randint(max(talk.thinned, len(lines) * 9 // 10), len(lines) - 1)
         lines[at] = talk.spoiled(lines[at])
-    case = Case(lines, draw.random() < 0.9, tuple(requests_of(draw)) if refusing and not (has_budget and seed % 4 == 1) else ())
+    case = Case(lines, draw.random() < 0.9, tuple(fuzzing.requests_of(draw, REFUSED_FROM, GAPS)) if refusing and not (has_budget and seed % 4 == 1) else ())
     return case._replace(budget=budget_of(draw, lines, refusing) if has_budget else None), thinning, talk.thinned
 
 
@@ -454,40 +430,32 @@ EFFECTS = {
     "split": {"to neither", "all stay", "all go", "in two", "refused"},
     "append": {"of nothing", "to nothing", "beyond", "before", "between", "equal keys", "refused"},
 }
+KINDS = {f"{word} {name}": EFFECTS[word] for name, table in (("M", ON_MAPS), ("C", ON_SETS)) for word in table}
 
 
-class Tally:
-    """How often each kind of line occurred, with each effect, and on trees of so many levels."""
+class Tally(fuzzing.Tally):
+    """What occurred, with how runs ended, and out of how many trees most keys went."""
 
     def __init__(self):
-        self.effects, self.levels, self.ends, self.thinned = (collections.Counter() for _ in range(4))
+        super().__init__(KINDS, (0, CAPACITY, 16**2 - 1, 16**3 - 1))
+        self.ends, self.thinned = collections.Counter(), collections.Counter()
         self.copies = {}  # how many pairs were copied, by the places of the lines
 
     def add(self, other):
-        self.effects += other.effects
-        self.levels += other.levels
+        super().add(other)
         self.ends += other.ends
         self.thinned += other.thinned
 
-    def see(self, at, command, both, reply):
+    def see_command(self, at, command, both, reply):
         if command.word == "copy":
             self.copies[at] = len(both[0])
-        kind = f"{command.word} {'C' if command.names[0] > 1 else 'M'}"
-        self.effects[kind, effect(command, *both, reply)] += 1
-        # So many levels at the least; a tree whose nodes are not full has one more at the most.
-        self.levels[kind, sum(len(both[0]) > most for most in (0, CAPACITY, 16**2 - 1, 16**3 - 1))] += 1
+        self.see(f"{command.word} {'C' if command.names[0] > 1 else 'M'}", effect(command, *both, reply), len(both[0]))
 
     def missing(self):
-        """The kinds of line that did not occur with each of their effects, or on trees of some number of levels."""
-        kinds = [(f"{word} {name}", EFFECTS[word]) for name, table in (("M", ON_MAPS), ("C", ON_SETS)) for word in table]
-        lacking = [f"{kind}: {it}" for kind, effects in kinds for it in sorted(effects) if not self.effects[kind, it]]
-        lacking += [f"most keys out of a tree of {levels} levels, {order}" for levels, order in THINNINGS if not self.thinned[levels, order]]
-        return lacking + [f"{kind}: {n} levels" for kind, _ in kinds for n in range(5) if not self.levels[kind, n]]
+        return super().missing() + [f"most keys out of a tree of {levels} levels, {order}" for levels, order in THINNINGS if not self.thinned[levels, order]]
 
     def print(self):
-        for kind in sorted({kind for kind, _ in self.effects}):
-            met = ", ".join(f"{it} {n}" for (of, it), n in sorted(self.effects.items()) if of == kind)
-            print(f"  {kind}: {met}; by levels {' '.join(str(self.levels[kind, n]) for n in range(5))}")
+        super().print()
         print("  most keys out:", ", ".join(f"of {levels} levels {order} {self.thinned[levels, order]}" for levels, order in THINNINGS))
         print("  runs:", ", ".join(f"{it} {n}" for it, n in sorted(self.ends.items())))
 
@@ -495,29 +463,19 @@ class Tally:
 # What is printed.
 
 
-def shown(line):
-    """The line, with each byte that isn't printed as \\0ooo."""
-    return "".join(chr(byte) if 32 <= byte < 127 and byte != 92 else f"\\0{byte:03o}" for byte in line)
-
-
 def report(shrinking):
     """Tells what is wrong, and what shows it."""
     case, fault = shrinking.case, shrinking.fault
-    lines = [shown(line) for line in case.lines]
-    text = f"Wrong is the reply to line {fault.at + 1} of the {len(lines)} that are left"
+    text = f"Wrong is the reply to line {fault.at + 1} of the {len(case.lines)} that are left"
     if shrinking.has_fallen(shrinking.ran):
-        text = f"Wrong is how the program ended at the {len(lines)} lines that are left"
+        text = f"Wrong is how the program ended at the {len(case.lines)} lines that are left"
     if case.budget is not None:
         text += f", in a budget by ./fcrun --memory {case.budget}"
     if case.requests:
         numbers = ",".join(map(str, case.requests))
         text += f", with requests refused by {'REFUSE=' if len(case.requests) > 1 else './fcrun --refuse '}{numbers}"
     text += "" if case.ended else ", without the last line feed"
-    text += ", with bytes as printf %b reads them" if any("\\" in line for line in lines) else ""
-    shortened = [line if len(line) <= 500 else f"{line[:500]}.. ({len(line)} bytes)" for line in lines]
-    if len(lines) > 40:
-        shortened[20:-20] = [f".. ({len(lines) - 40} lines)"]
-    print(text[:1000] + ":", *shortened, f"wanted: {fault.wanted[:1000]}", f"told:   {fault.told[:1000]}", sep="\n")
+    fuzzing.print_fault(text, case.lines, fault.wanted, fault.told)
 
 
 class Tried(NamedTuple):
@@ -534,7 +492,7 @@ class Tried(NamedTuple):
 def fault_in(program, case, ran, tally=None):
     """Where a run differs from what is wanted, or its last copies make other requests than those of sound trees, or None. What occurred is added to the tally."""
     seen = tally or Tally()
-    fault = judge.fault_of(case, ran, seen.see)
+    fault = judge.fault_of(case, ran, seen.see_command)
     if fault or case.requests or case.budget is not None:
         return fault
     requests = {len(case.lines): ran.requests}  # those of so many lines
@@ -565,12 +523,9 @@ def tried(work):
 
 def trials(program, words):
     """What comes of one seed after another, for as long as it goes on, by some processes at once."""
-    until, seed = time.monotonic() + words.seconds, words.seed
     with concurrent.futures.ProcessPoolExecutor(words.jobs) as pool:
-        while time.monotonic() < until or seed < words.seed + words.runs:
-            seeds = range(seed, seed + words.jobs)
+        for seeds in fuzzing.seeds(words, words.jobs):
             yield from pool.map(tried, [(program, it, words.memory) for it in seeds])
-            seed = seeds.stop
 
 
 def fuzz(program, words):
@@ -589,22 +544,13 @@ def fuzz(program, words):
         tally.add(it.tally)
     if words.tally:
         tally.print()
-    lacking = tally.missing() if words.runs > 1 else []
-    if lacking:
-        print(f"in these runs did not occur: {', '.join(lacking)}")
-    print(f"seeds {words.seed} to {it.seed}: {told} lines, {refused} {'commands' if words.memory else 'requests for memory'} refused")
-    print(f"{passed} passed, {len(lacking)} failed")
-    return 1 if lacking else 0
+    done = f"{told} lines, {refused} {'commands' if words.memory else 'requests for memory'} refused"
+    return fuzzing.print_end(words, it.seed, passed, tally.missing(), done)
 
 
 def main():
-    words = argparse.ArgumentParser(description=__doc__, formatter_class=argparse.RawDescriptionHelpFormatter)
-    words.add_argument("seconds", type=int)
-    words.add_argument("seed", type=int, nargs="?", default=int(time.time()))
-    words.add_argument("--runs", type=int, default=1)
+    words = fuzzing.words_of(__doc__)
     words.add_argument("--jobs", type=int, default=len(os.sched_getaffinity(0)))
-    words.add_argument("--program")
-    words.add_argument("--tally", action="store_true")
     words.add_argument("--memory", action="store_true")
     words = words.parse_args()
     name = "fcrun_memory" if words.memory else "fcrun"

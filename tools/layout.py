@@ -14,10 +14,11 @@ with tempfile.TemporaryDirectory() as folder:
     room = pathlib.Path(folder)
     shutil.copy(top / "crates.txt", room)
     for crate in sorted((top / "crates").iterdir()):
-        shutil.copytree(crate / "src", room / "crates" / crate.name / "src")
+        for part in (it for it in ("src", "specs", "proofs") if (crate / it).is_dir()):
+            shutil.copytree(crate / part, room / "crates" / crate.name / part)
         said = subprocess.run(["rt", "fmt"], cwd=room / "crates" / crate.name, capture_output=True, text=True, check=False)
         wrong += [f"{crate.name}: {(said.stdout + said.stderr).strip()[-300:]}"] * (said.returncode != 0)
-    for file in sorted((top / "crates").glob("*/src/**/*.rt")):
+    for file in sorted(it for part in ("src/**/*.rt", "specs/**/*.antt", "proofs/**/*.antt") for it in (top / "crates").glob(f"*/{part}")):
         path = file.relative_to(top)
         wrong += [f"{path} is not in the layout: run rt fmt in its crate's folder"] * (not filecmp.cmp(file, room / path, shallow=False))
 if wrong:

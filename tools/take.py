@@ -26,7 +26,7 @@ import tempfile
 
 parts = ("src", "specs", "proofs", "README.md", "CALLING.md", "COUNTED.md")
 home = "fc_base"  # each taking has this crate
-alone = ["fc_cache", "fc_intervals", "fc_shared_budget", "fc_timers"]  # crates that come where they are asked for
+alone = ["fc_cache", "fc_index", "fc_intervals", "fc_shared_budget", "fc_timers"]  # crates that come where they are asked for
 beside = {"fc_base": ["fc_budget"], "fc_map": ["fc_laws", "fc_memory"]}  # what callers of a crate use besides, in crates that it doesn't stand on
 proof_of = re.compile(r"crates/(\w+)/out/rlib/")  # where an archive has what was proved of a crate
 origin = f"*Taken with the library: what this page names and is not here stands in the repository of the commit in `crates/{home}/TAKEN`.*"

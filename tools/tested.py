@@ -14,7 +14,7 @@ import re
 from surface import NOT_CALLED, Call, Surface, clause, plain
 
 TESTS = ("test_", "probe_", "callers_", "example_", "fcrun")
-ROOTS = ("fallible_collections", "fc_budget", "fc_shared_budget", "fc_memory", "fc_intervals", "fc_cache", "fc_timers")  # what a user's crate names
+ROOTS = ("fallible_collections", "fc_budget", "fc_shared_budget", "fc_memory", "fc_intervals", "fc_cache", "fc_timers", "fc_index")  # what a user's crate names
 INNER = {*NOT_CALLED, "fc_map_iter/src/compare.rt"}  # what crates of the library alone call
 # What mostly stands for a call of one of std's traits; an empty text: nothing, as where a value is dropped.
 WRITTEN = {

@@ -5,7 +5,7 @@ import re
 
 from . import source
 
-ROOTS = ("fallible_collections", "fc_budget", "fc_shared_budget", "fc_memory", "fc_intervals", "fc_cache", "fc_timers")  # what a user's crate names
+ROOTS = ("fallible_collections", "fc_budget", "fc_shared_budget", "fc_memory", "fc_intervals", "fc_cache", "fc_timers", "fc_index")  # what a user's crate names
 BOUNDS = "bounds"  # where traits are shown that calls ask for and no user names
 TYPES = ("struct", "enum", "trait", "type")
 

@@ -1,76 +1,121 @@
-//! A queue of timers behind lines of text.
+//! Timers by their ids: reads lines from standard input, and answers each by lines on standard output.
 #![tactic(auto)]
 
-mod commands;
-mod time;
-mod timers;
+ghost use Rattle.std.specs.Prelude.{◌≡◌, ◌+◌, OnOk, OnErr};
+ghost use Rattle.std.specs.Ordering.{nat_cmp};
+ghost use Rattle.fc_base.specs.OneKey.{put};
+ghost use Rattle.fc_map.specs.Entries.{entries};
+ghost use Rattle.fc_timers.specs.Timers.{timer_count};
+ghost use Rattle.fc_timers.specs.declared.timer.Timer.{Timer as Key};
 
-use bounded_lines::{Line, Pieces};
-use commands::{Command, command_in};
-use std::io;
-use timers::{NotSet, Timers};
+use bounded_lines::{Line, Pieces, number};
+use fc_map::map::BTreeMap;
+use fc_timers::{Timer, TimerQueue, TryReserveError};
+use std::io::{self, BufWriter, Write};
 
-/// The longest line, in bytes.
-const LONGEST: usize = 80;
+// The most bytes of a line, and how many bytes of replies are kept.
+const ROOM: usize = 1024;
 
-fn main(rt: HostRuntime) -> io::Result<()> {
-    serve(&rt)
+// The ids of timers by their times, and by each id its timer.
+#[derive(Drop)]
+struct Timers {
+    queue: TimerQueue<u64, u64>,
+    by_id: BTreeMap<u64, Timer>,
 }
 
-// Answers each line. The timers alone take memory.
-fn serve(rt: &(impl Input + Print + AllocGlobal)) -> io::Result<()> {
-    let mut timers = Timers::new(rt.alloc());
-    let mut line = Line::<LONGEST>::new();
+// Answers line after line. All room for replies is taken before the first.
+fn main(rt: HostRuntime) -> io::Result<()> {
+    let mut line = Line::<ROOM>::new();
     let mut source = Pieces::new(rt.reader());
+    let mut out = BufWriter::with_capacity(rt.alloc(), ROOM, io::writer(&rt))?;
+    let mut timers = Timers {
+        queue: TimerQueue::new(rt.alloc()),
+        by_id: BTreeMap::new(rt.alloc()),
+    };
     for _ in 0..u64::MAX {
         if !line.read(&mut source)? {
             break;
         }
-        answer(rt, &mut timers, &line)?;
+        match line.text() {
+            Some(text) => answer(&mut timers, text, &mut out)?,
+            None if line.is_too_long() => writeln!(out, "line too long")?,
+            None => writeln!(out, "bad line")?,
+        }
+        out.flush()?;
     }
-    Ok(())
+    out.flush()
 }
 
-fn answer(rt: &impl Print, timers: &mut Timers, line: &Line<LONGEST>) -> io::Result<()> {
-    let Some(text) = line.text() else {
-        return println!(rt; "error: a line is text of at most {LONGEST} bytes");
-    };
-    match command_in(text) {
-        Some(Command::Add(id, due)) => add(rt, timers, id, due),
-        Some(Command::Cancel(id)) => match timers.cancel(id) {
-            Some(due) => println!(rt; "cancelled, was due at {due}"),
-            None => println!(rt; "error: there is no timer {id}"),
+// Runs the command that a text spells, whose words stand apart by single spaces, and writes its reply.
+fn answer<W: Write>(timers: &mut Timers, text: &str, out: &mut W) -> io::Result<()> {
+    let (word, rest) = text.split_once(' ').unwrap_or((text, ""));
+    match (word, pair(rest), number(rest)) {
+        ("add", Some((id, _)), _) if timers.by_id.contains_key(&id) => {
+            writeln!(out, "timer {id} is set already")
+        }
+        ("add", Some((id, due)), _) => match timers.add(id, due) {
+            Ok(()) => writeln!(out, "added"),
+            Err(_) => writeln!(out, "out of memory"),
         },
-        Some(Command::Due(now)) => expire(rt, timers, now),
-        Some(Command::List) => list(rt, timers),
-        None => println!(rt; "error: not a command"),
+        ("move", Some((id, due)), _) => match timers.reschedule(id, due) {
+            Some(was) => writeln!(out, "moved, was due at {was}"),
+            None => writeln!(out, "no timer {id}"),
+        },
+        ("cancel", _, Some(id)) => match timers.cancel(id) {
+            Some(was) => writeln!(out, "cancelled, was due at {was}"),
+            None => writeln!(out, "no timer {id}"),
+        },
+        ("due", _, Some(now)) => timers.expire(now, out),
+        _ if text == "next" => match timers.queue.next_deadline() {
+            Some(due) => writeln!(out, "next at {due}"),
+            None => writeln!(out, "none is set"),
+        },
+        _ if text == "count" => writeln!(out, "{} set", timers.queue.len()),
+        _ => writeln!(out, "bad line"),
     }
 }
 
-fn add(rt: &impl Print, timers: &mut Timers, id: u64, due: u64) -> io::Result<()> {
-    match timers.try_add(id, due) {
-        Ok(()) => println!(rt; "added"),
-        Err(NotSet::InUse) => println!(rt; "error: timer {id} is set already"),
-        Err(NotSet::Memory((due, id), _why)) => println!(rt;
-            "out of memory: timer {id} at {due} is not set"
-        ),
-    }
+// Two numbers.
+fn pair(text: &str) -> Option<(u64, u64)> {
+    let (first, second) = text.split_once(' ')?;
+    Some((number(first)?, number(second)?))
 }
 
-// Shows the timers that are due, and takes them out.
-fn expire(rt: &impl Print, timers: &mut Timers, now: u64) -> io::Result<()> {
-    for (due, id) in timers.due(now) {
-        println!(rt; "{id} was due at {due}")?;
+impl Timers {
+    // Sets a timer whose id no other has. Where memory was refused, all is as it was.
+    fn add(&mut self, id: u64, due: u64) -> Result<(), TryReserveError>
+        ensures count { OnOk result (timer_count self.new.queue ≡ timer_count self.old.queue + 1) }
+        ensures put { OnOk result ((timer : Key) × (entries self.new.by_id ≡ put nat_cmp (entries self.old.by_id) id timer)) }
+        ensures unchanged { OnErr result (self.new ≡ self.old) }
+    {
+        let mut nodes = self.by_id.try_reserve_nodes(1)?;
+        let timer = self.queue.try_insert(due, id).map_err(|e| e.2)?;
+        self.by_id.insert_reserved(&mut nodes, id, timer);
+        Ok(())
     }
-    let count = timers.expire(now);
-    println!(rt; "{count} due")
-}
 
-fn list(rt: &impl Print, timers: &Timers) -> io::Result<()> {
-    let walk = timers.iter();
-    let count = walk.len();
-    for (due, id) in walk {
-        println!(rt; "{id} is due at {due}")?;
+    // Gives the timer of an id another time, and answers the one that it had.
+    fn reschedule(&mut self, id: u64, due: u64) -> Option<u64> {
+        let timer = self.by_id.get(&id)?;
+        self.queue.reschedule(*timer, due)
     }
-    println!(rt; "{count} set")
+
+    // Takes the timer of an id out, and answers when it was due.
+    fn cancel(&mut self, id: u64) -> Option<u64> {
+        let timer = self.by_id.remove(&id)?;
+        let (due, _id) = self.queue.cancel(timer)?;
+        Some(due)
+    }
+
+    // Takes out all that are due, and writes each, and how many they were.
+    fn expire<W: Write>(&mut self, now: u64, out: &mut W) -> io::Result<()> {
+        for count in 0..u64::MAX {
+            let Some((due, id)) = self.queue.pop_due(&now) else {
+                return writeln!(out, "{count} due");
+            };
+            self.by_id.remove(&id);
+            writeln!(out, "{id} was due at {due}")?;
+        }
+        writeln!(out, "{} due", u64::MAX)
+    }
 }

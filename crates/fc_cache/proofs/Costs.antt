@@ -46,7 +46,7 @@ module _ {K V : Type 0} where
     passes (Some e) found = ap (λ b. cond b (Some e.1) None) (between test es e (lookup_tagged test es ∙ found)).passes
 
   -- A look-up goes on where the first entries miss it.
-  lookup_on : (test : K → Bool) (xs ys : List (K × Held V)) → lookup test xs ≡ None → lookup test (xs ++ ys) ≡ lookup test ys
+  pub lookup_on : (test : K → Bool) (xs ys : List (K × Held V)) → lookup test xs ≡ None → lookup test (xs ++ ys) ≡ lookup test ys
   lookup_on test [] ys none = refl
   lookup_on test (x ∷ xs) ys none =
       (elim (test x.0) as (λ b. cond b (Some x.1) (lookup test xs) ≡ None → cond b (Some x.1) (lookup test (xs ++ ys)) ≡ lookup test ys) [

@@ -1,6 +1,8 @@
 pub mod Laws
+pub mod Joined
 pub mod Lists
 pub mod Order
+pub mod Parted
 pub mod Points
 pub mod Walks
 pub mod Written

@@ -1,5 +1,6 @@
 -- How the tests of an order chain.
 use Rattle.std.proofs.Common.{◌≡◌, true, false, refl, sym, ap, ◌∙◌}
+use Rattle.std.specs.Prelude.{not}
 use Rattle.std.specs.Cmp.{IsTotalOrder}
 use Rattle.std.specs.Ordering.{is_lt, is_le, is_ge, ordering_reverse}
 use Rattle.std.specs.declared.cmp.Ordering.{Ordering}
@@ -31,6 +32,11 @@ turned_more Less h = absurd cc
 turned_more Equal h = absurd cc
 turned_more Greater h = refl
 
+pub not_less : (r : Ordering) → not (is_lt r) ≡ is_ge r
+not_less Less = refl
+not_less Equal = refl
+not_less Greater = refl
+
 module _ {K : Type 0} {cmp : K → K → Ordering} (o : IsTotalOrder cmp) where
   pub le_from_not_lt : (x y : K) → is_lt (cmp x y) ≡ false → is_le (cmp y x) ≡ true
   le_from_not_lt x y h = ap is_le (o.antisymm y x) ∙ turned_at_most (cmp x y) h
@@ -46,6 +52,9 @@ module _ {K : Type 0} {cmp : K → K → Ordering} (o : IsTotalOrder cmp) where
 
   pub le_from_ge : (x y : K) → is_ge (cmp x y) ≡ true → is_le (cmp y x) ≡ true
   le_from_ge x y h = ap is_le (o.antisymm y x) ∙ turned_least (cmp x y) h
+
+  pub ge_from_le : (x y : K) → is_le (cmp x y) ≡ true → is_ge (cmp y x) ≡ true
+  ge_from_le x y h = sym (not_less (cmp y x)) ∙ ap not (not_lt_from_le x y h)
 
   pub less_le : (x y z : K) → cmp x y ≡ Less → is_le (cmp y z) ≡ true → cmp x z ≡ Less
   less_le x y z p q = go (cmp y z) refl q

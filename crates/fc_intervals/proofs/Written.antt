@@ -1,25 +1,23 @@
 -- What a call on a range makes of a list of stretches.
-use Rattle.std.proofs.Common.{◌≡◌, ℕ, ◌+◌, ◌≤◌, arith, Bool, true, false, cond, List, [], ◌∷◌, ◌++◌, length, length-append, Option, Some, None, inl, inr}
+use Rattle.std.proofs.Common.{◌≡◌, Bool, true, false, cond, List, [], ◌∷◌, ◌++◌, Option, Some, None, inl, inr}
 use Rattle.std.proofs.Common.{refl, sym, ap, ◌∙◌, subst, append_assoc, append-nil}
-use Rattle.std.specs.Prelude.{◌&&◌, not, map, unwrap_or}
-use Rattle.std.specs.List.{AllByRecursion, filter}
-use Rattle.std.specs.Option.{option_map, MatchOption}
+use Rattle.std.specs.Prelude.{◌&&◌, map, unwrap_or}
+use Rattle.std.specs.List.{AllByRecursion}
+use Rattle.std.specs.Option.{option_map}
 use Rattle.std.specs.Cmp.{IsTotalOrder}
-use Rattle.std.specs.Ordering.{is_lt, is_le, is_eq, is_gt, is_ge}
+use Rattle.std.specs.Ordering.{is_lt, is_le, is_eq, is_gt, is_ge, ordering_reverse}
 use Rattle.std.specs.declared.cmp.Ordering.{Ordering}
 use Rattle.std.specs.declared.cmp.Ordering.TheVariants.{Less, Equal, Greater}
-use Rattle.std.specs.declared.ops.Bound.TheVariants.{Included, Excluded}
 use Rattle.std.proofs.lemmas.Cmp.{tied_itself}
-use Rattle.std.proofs.lemmas.List.{map-append, length-map}
+use Rattle.std.proofs.lemmas.List.{map-append}
 use Rattle.std.proofs.lemmas.List.Elements.{filter-append}
-use Rattle.std.proofs.lemmas.List.Sums.{length-filter, count_by-le-length}
+use Rattle.fc_base.specs.Ascending.{IsAscending}
 use Rattle.fc_base.specs.Halves.{not_below}
 use Rattle.fc_base.specs.OneKey.{put}
 use Rattle.fc_base.specs.Parts.{at, below, above}
 use Rattle.fc_base.specs.Viewed.{over_one, own_order}
 use Rattle.fc_base.proofs.AscendingFacts.{all_map, all_below}
 use Rattle.fc_base.proofs.JoinedLaws.{halves_joined}
-use Rattle.fc_map.specs.Ranged.{outside}
 use Rattle.fc_laws.specs.Words.{last_item}
 use Rattle.fc_intervals.specs.Steps.{ahead, ended, EndsBy, IsRest, starting}
 use Rattle.fc_intervals.specs.Stretches.{AreApart, IsKept, IsWritten, lies, stretch_at, value_at_point}
@@ -54,22 +52,55 @@ pub kept_same : {V : Type 0} (same : V → V → Type 0) (o : Option V) → IsKe
 kept_same same None = tt
 kept_same same (Some x) = inl refl
 
-module _ {K V : Type 0} (cmp : K → K → Ordering) (o : IsTotalOrder cmp) (s : List (K × Stretch K V)) (apart : AreApart cmp s) where
-  halves : (b : K) → below cmp s b ++ not_below cmp s b ≡ s
-  halves b = halves_joined cmp cmp s b (own_order o) (apart_ascend cmp o s apart)
+-- stretches end by a point where the last of them does
+pub ends_by : {K V : Type 0} (cmp : K → K → Ordering) (o : IsTotalOrder cmp) (s : List (K × Stretch K V)) → AreApart cmp s → (a : K)
+    → EndsBy cmp a (last_item s) → EndBy cmp a s
+ends_by {K} {V} cmp o s apart a h = go (last_item s) refl h
+  where
+    go : (l : Option (K × Stretch K V)) → last_item s ≡ l → EndsBy cmp a l → EndBy cmp a s
+    go None e h = subst (EndBy cmp a) (sym (no_last _ e)) tt
+    go (Some y) e h =
+        let split : EndsIn s y = ends_in s y e in
+        let parts : AreApart cmp (split.lead ++ y ∷ []) = subst (AreApart cmp) split.is apart in
+        let by : is_le (cmp y.1.end a) ≡ true = le_from_not_lt o a y.1.end h in
+        let start : is_le (cmp y.0 a) ≡ true = ap is_le (less_le o y.0 y.1.end a (apart_rest cmp split.lead (y ∷ []) parts).0 by) in
+        subst (EndBy cmp a) (sym split.is) (all_joined _ split.lead (y ∷ [])
+        (all_map _ _ (λ x l. le_le o x.1.end y.0 a l start) split.lead (lead_ends cmp split.lead [] y parts)) (by, tt))
 
-  -- what starts before a point ends there, where the last of it does
-  ends_by : (b : K) → EndsBy cmp b (last_item (below cmp s b)) → EndBy cmp b (below cmp s b)
-  ends_by b h = go (last_item (below cmp s b)) refl h
-    where
-      go : (l : Option (K × Stretch K V)) → last_item (below cmp s b) ≡ l → EndsBy cmp b l → EndBy cmp b (below cmp s b)
-      go None e h = subst (EndBy cmp b) (sym (no_last _ e)) tt
-      go (Some y) e h =
-          let split : EndsIn (below cmp s b) y = ends_in (below cmp s b) y e in
-          let parts : AreApart cmp (split.lead ++ y ∷ []) = subst (AreApart cmp) split.is (apart_kept cmp _ s apart) in
-          let less : cmp y.0 b ≡ Less = all_at _ split.lead [] y (subst (AllByRecursion (λ x. cmp x.0 b ≡ Less)) split.is (all_below cmp s b)) in
-          subst (EndBy cmp b) (sym split.is) (all_joined _ split.lead (y ∷ [])
-          (all_map _ _ (λ x l. le_le o x.1.end y.0 b l (ap is_le less)) split.lead (lead_ends cmp split.lead [] y parts)) (le_from_not_lt o b y.1.end h, tt))
+-- the three ways in which the last of the stretches that start before a point is ended
+module _ {K V : Type 0} (cmp : K → K → Ordering) (o : IsTotalOrder cmp) (s : List (K × Stretch K V)) (ascends : IsAscending cmp s) (a : K)
+    (apart : AreApart cmp (below cmp s a)) where
+  ended_all : EndBy cmp a (below cmp s a) → s ≡ ahead cmp s a ++ not_below cmp s a
+  ended_all h = sym (halves_joined cmp cmp s a (own_order o) ascends) ∙ ap (λ l. l ++ not_below cmp s a) (sym (nothing_ended cmp o a (below cmp s a) h))
+
+  pub end_none : below cmp s a ≡ [] → s ≡ ahead cmp s a ++ not_below cmp s a
+  end_none e = ended_all (subst (EndBy cmp a) (sym e) tt)
+
+  module _ (lead : List (K × Stretch K V)) (p : K × Stretch K V) (last : below cmp s a ≡ lead ++ p ∷ []) where
+    pub end_kept : is_lt (cmp a p.1.end) ≡ false → s ≡ ahead cmp s a ++ not_below cmp s a
+    end_kept h = ended_all (ends_by cmp o (below cmp s a) apart a (subst (EndsBy cmp a) (sym (ap last_item last ∙ last_is lead p)) h))
+
+    pub end_written : is_lt (cmp a p.1.end) ≡ true
+        → lead ++ (p.0, let x : Stretch K V = record { end = a; value = p.1.value } in x) ∷ not_below cmp s a ≡ ahead cmp s a ++ not_below cmp s a
+    end_written h =
+        let parts : AreApart cmp (lead ++ p ∷ []) = subst (AreApart cmp) last apart in
+        let less : cmp p.0 a ≡ Less = all_at _ lead [] p (subst (AllByRecursion (λ x. cmp x.0 a ≡ Less)) last (all_below cmp s a)) in
+        let lead_by : EndBy cmp a lead = all_map _ _ (λ x l. le_le o x.1.end p.0 a l (ap is_le less)) lead (lead_ends cmp lead [] p parts) in
+        sym (
+        ap (λ l. map (ended cmp a) l ++ not_below cmp s a) last
+        ∙ ap (λ l. l ++ not_below cmp s a) (map-append (ended cmp a) lead (p ∷ []))
+        ∙ ap (λ l. (l ++ ended cmp a p ∷ []) ++ not_below cmp s a) (nothing_ended cmp o a lead lead_by)
+        ∙ append_assoc lead (ended cmp a p ∷ []) (not_below cmp s a)
+        ∙ ap (λ t. lead ++ (p.0, let x : Stretch K V = record { end = cond t a p.1.end; value = p.1.value } in x) ∷ not_below cmp s a) h
+        )
+
+-- what starts before a point, ended there, still starts before it
+pub front_less : {K V : Type 0} (cmp : K → K → Ordering) (s : List (K × Stretch K V)) (a : K) → AllByRecursion (λ e. cmp e.0 a ≡ Less) (ahead cmp s a)
+front_less cmp s a = all_over (λ e. cmp e.0 a ≡ Less) (ended cmp a) (below cmp s a) (all_below cmp s a)
+
+module _ {K V : Type 0} (cmp : K → K → Ordering) (o : IsTotalOrder cmp) (s : List (K × Stretch K V)) (apart : AreApart cmp s) where
+  pub halves : (b : K) → below cmp s b ++ not_below cmp s b ≡ s
+  halves b = halves_joined cmp cmp s b (own_order o) (apart_ascend cmp o s apart)
 
   pub start_from : (b : K) → StartFrom cmp b (not_below cmp s b)
   start_from b = all_map _ _ (λ e h. le_from_ge o e.0 b h) _ (all_pass (λ e. is_ge (cmp e.0 b)) s)
@@ -127,7 +158,8 @@ module _ {K V : Type 0} (cmp : K → K → Ordering) (o : IsTotalOrder cmp) (s :
     rest_value None h p l =
         let e : value_at_point cmp s p ≡ value_at_point cmp (not_below cmp s b) p =
         ap (option_map (λ (x : K × Stretch K V). x.1.value)) (ap (λ t. stretch_at cmp t p) (sym (halves b))
-        ∙ found_behind _ (below cmp s b) (not_below cmp s b) (past cmp o b p (below cmp s b) (ends_by b h) l)) in
+        ∙ found_behind _ (below cmp s b) (not_below cmp s b)
+        (past cmp o b p (below cmp s b) (ends_by cmp o (below cmp s b) (apart_kept cmp _ s apart) b h) l)) in
         subst (λ v. IsKept same v (value_at_point cmp (not_below cmp s b) p)) (sym e) (kept_same same (value_at_point cmp (not_below cmp s b) p))
     rest_value (Some r) h p l =
         let others = stretch_at cmp (not_below cmp s b) p in
@@ -140,11 +172,6 @@ module _ {K V : Type 0} (cmp : K → K → Ordering) (o : IsTotalOrder cmp) (s :
         subst (λ v. IsKept same v (value_at_point cmp ((b, r) ∷ not_below cmp s b) p)) (sym e)
         (subst (λ v. IsKept same (option_map (λ x. x.1.value) (cond test (Some h.0) others)) v) (sym f) (kept_pick test h.0 (b, r) others h.4))
 
-  not_less : (r : Ordering) → not (is_lt r) ≡ is_ge r
-  not_less Less = refl
-  not_less Equal = refl
-  not_less Greater = refl
-
   -- what starts before a point, ended there
   module _ (a : K) where
     pub front : AreApart cmp (ahead cmp s a)
@@ -153,69 +180,11 @@ module _ {K V : Type 0} (cmp : K → K → Ordering) (o : IsTotalOrder cmp) (s :
     pub front_ends : EndBy cmp a (ahead cmp s a)
     front_ends = end_by_ended cmp o a (below cmp s a)
 
-    front_less : AllByRecursion (λ e. cmp e.0 a ≡ Less) (ahead cmp s a)
-    front_less = all_over (λ e. cmp e.0 a ≡ Less) (ended cmp a) (below cmp s a) (all_below cmp s a)
-
     value_ahead : (p : K) → cmp p a ≡ Less → value_at_point cmp (ahead cmp s a) p ≡ value_at_point cmp s p
     value_ahead p l = value_ended cmp o a p (below cmp s a) l ∙ ap (option_map (λ (x : K × Stretch K V). x.1.value))
         (found_in (λ e. lies cmp e.0 e.1.end p) (λ e. is_lt (cmp e.0 a)) (λ e h. ap is_lt (le_less o e.0 p a (and_left (is_le (cmp e.0 p)) _ h) l)) s)
 
-    -- the three ways in which the last of these is ended
-    ended_all : EndBy cmp a (below cmp s a) → s ≡ ahead cmp s a ++ not_below cmp s a
-    ended_all h = sym (halves a) ∙ ap (λ l. l ++ not_below cmp s a) (sym (nothing_ended cmp o a (below cmp s a) h))
-
-    pub end_none : below cmp s a ≡ [] → s ≡ ahead cmp s a ++ not_below cmp s a
-    end_none e = ended_all (subst (EndBy cmp a) (sym e) tt)
-
-    module _ (lead : List (K × Stretch K V)) (p : K × Stretch K V) (last : below cmp s a ≡ lead ++ p ∷ []) where
-      pub end_kept : is_lt (cmp a p.1.end) ≡ false → s ≡ ahead cmp s a ++ not_below cmp s a
-      end_kept h = ended_all (ends_by a (subst (EndsBy cmp a) (sym (ap last_item last ∙ last_is lead p)) h))
-
-      pub end_written : is_lt (cmp a p.1.end) ≡ true
-          → lead ++ (p.0, let x : Stretch K V = record { end = a; value = p.1.value } in x) ∷ not_below cmp s a ≡ ahead cmp s a ++ not_below cmp s a
-      end_written h =
-          let parts : AreApart cmp (lead ++ p ∷ []) = subst (AreApart cmp) last (apart_kept cmp _ s apart) in
-          let less : cmp p.0 a ≡ Less = all_at _ lead [] p (subst (AllByRecursion (λ x. cmp x.0 a ≡ Less)) last (all_below cmp s a)) in
-          let lead_by : EndBy cmp a lead = all_map _ _ (λ x l. le_le o x.1.end p.0 a l (ap is_le less)) lead (lead_ends cmp lead [] p parts) in
-          sym (
-          ap (λ l. map (ended cmp a) l ++ not_below cmp s a) last
-          ∙ ap (λ l. l ++ not_below cmp s a) (map-append (ended cmp a) lead (p ∷ []))
-          ∙ ap (λ l. (l ++ ended cmp a p ∷ []) ++ not_below cmp s a) (nothing_ended cmp o a lead lead_by)
-          ∙ append_assoc lead (ended cmp a p ∷ []) (not_below cmp s a)
-          ∙ ap (λ t. lead ++ (p.0, let x : Stretch K V = record { end = cond t a p.1.end; value = p.1.value } in x) ∷ not_below cmp s a) h
-          )
-
-    front_length : length (ahead cmp s a ++ not_below cmp s a) ≡ length s
-    front_length = length-append (ahead cmp s a) (not_below cmp s a) ∙ ap (λ n. n + length (not_below cmp s a)) (length-map (below cmp s a) (ended cmp a))
-        ∙ sym (length-append (below cmp s a) (not_below cmp s a)) ∙ ap length (halves a)
-
-    pub cleared_length : (b : K) (t u : List (K × Stretch K V)) → t ≡ ahead cmp s a ++ not_below cmp s a → u ≡ outside cmp (Included a) (Excluded b) t
-        → length u ≤ length s
-    cleared_length b t u e f =
-        let p = λ (x : K × Stretch K V). not (is_ge (cmp x.0 a) && is_lt (cmp x.0 b)) in
-        omega (arith, ap length e, ap length f, front_length, length-filter p t, count_by-le-length p t)
-
     module _ (b : K) (upto : is_le (cmp a b) ≡ true) where
-      pub cleared_is : outside cmp (Included a) (Excluded b) (ahead cmp s a ++ not_below cmp s a) ≡ ahead cmp s a ++ not_below cmp s b
-      cleared_is =
-          filter-append _ (ahead cmp s a) (not_below cmp s a)
-          ∙ ap (λ l. l ++ filter (λ e. not (is_ge (cmp e.0 a) && is_lt (cmp e.0 b))) (not_below cmp s a))
-          (kept (λ e. not (is_ge (cmp e.0 a) && is_lt (cmp e.0 b))) (ahead cmp s a)
-          (all_map _ _ (λ e h. ap (λ r. not (is_ge r && is_lt (cmp e.0 b))) h) (ahead cmp s a) front_less))
-          ∙ ap (λ l. ahead cmp s a ++ l) (filters_both (λ e. is_ge (cmp e.0 a)) (λ e. not (is_ge (cmp e.0 a) && is_lt (cmp e.0 b))) (λ e. is_ge (cmp e.0 b))
-          (λ e. go e (cmp e.0 a) refl) s)
-        where
-          go : (e : K × Stretch K V) (r : Ordering) → cmp e.0 a ≡ r → (is_ge r && not (is_ge r && is_lt (cmp e.0 b))) ≡ is_ge (cmp e.0 b)
-          go e Less h = sym (ap is_ge (less_le o e.0 a b h upto))
-          go e Equal h = not_less (cmp e.0 b)
-          go e Greater h = not_less (cmp e.0 b)
-
-      -- the rest finds its place
-      pub put_rest : (y : K × Stretch K V) (r : Stretch K V) → last_item (below cmp s b) ≡ Some y → cmp b y.1.end ≡ Less
-          → put cmp (ahead cmp s a ++ not_below cmp s b) b r ≡ ahead cmp s a ++ (b, r) ∷ not_below cmp s b
-      put_rest y r last on = put_between cmp (ahead cmp s a) (not_below cmp s b) b r
-          (all_map _ _ (λ e l. less_le o e.0 a b l upto) (ahead cmp s a) front_less) (behind_greater b y last on)
-
       module _ (same : V → V → Type 0) (rest : Option (Stretch K V)) (is_rest : IsRest cmp same s b rest) where
         abbrev back : List (K × Stretch K V)
         back = starting b rest ++ not_below cmp s b
@@ -238,38 +207,74 @@ module _ {K V : Type 0} (cmp : K → K → Ordering) (o : IsTotalOrder cmp) (s :
               (rest_value same b rest is_rest p l);
         }
 
-        module _ (range : cmp a b ≡ Less) (v : V) where
-          abbrev given : K × Stretch K V
-          given = (a, record { end = b; value = v })
-
-          put_given : put cmp (ahead cmp s a ++ back) a given.1 ≡ ahead cmp s a ++ given ∷ back
-          put_given = put_between cmp (ahead cmp s a) back a given.1 front_less
+        module _ (range : cmp a b ≡ Less) (g : Stretch K V) where
+          put_given : put cmp (ahead cmp s a ++ back) a g ≡ ahead cmp s a ++ (a, g) ∷ back
+          put_given = put_between cmp (ahead cmp s a) back a g (front_less cmp s a)
               (all_map _ _ (λ e h. over_one cmp o a e.0 (less_le o a b e.0 range h)) back (rest_from same b rest))
 
+        -- the range and a value, at a key that is equal to its start
+        module _ (range : cmp a b ≡ Less) (v : V) (key : K) (tied : cmp key a ≡ Equal) where
+          abbrev given : K × Stretch K V
+          given = (key, record { end = b; value = v })
+
+          before_end : cmp key b ≡ Less
+          before_end = o.congr key a b tied ∙ range
+
+          from_key : is_le (cmp a key) ≡ true
+          from_key = ap is_le (o.antisymm a key ∙ ap ordering_reverse tied)
+
           put_apart : AreApart cmp (ahead cmp s a ++ given ∷ back)
-          put_apart = apart_joined cmp o a (ahead cmp s a) (given ∷ back) front front_ends (range, rest_from same b rest, rest_apart same b rest is_rest)
-              (ap is_le (tied_itself o a), from_start)
+          put_apart = apart_joined cmp o a (ahead cmp s a) (given ∷ back) front front_ends
+              (before_end, rest_from same b rest, rest_apart same b rest is_rest) (from_key, from_start)
 
           put_written : IsWritten cmp same a b (Some v) s (ahead cmp s a ++ given ∷ back)
           put_written = record {
             inside = λ p h. ap (option_map (λ (x : K × Stretch K V). x.1.value))
                 (found_behind _ (ahead cmp s a) (given ∷ back) (past cmp o a p (ahead cmp s a) front_ends (and_left (is_le (cmp a p)) _ h))
-                ∙ ap (λ t. cond t (Some given) (stretch_at cmp back p)) h);
+                ∙ ap (λ t. cond t (Some given) (stretch_at cmp back p)) (ap (λ r. is_le r && is_lt (cmp p b)) (o.congr key a p tied) ∙ h));
             ahead = λ p l. ap (option_map (λ (x : K × Stretch K V). x.1.value))
-                (found_ahead _ (ahead cmp s a) (given ∷ back) (yet_to_come cmp o a p (given ∷ back) (ap is_le (tied_itself o a), from_start) l))
-                ∙ value_ahead p l;
+                (found_ahead _ (ahead cmp s a) (given ∷ back) (yet_to_come cmp o a p (given ∷ back) (from_key, from_start) l)) ∙ value_ahead p l;
             behind = λ p l. subst (λ u. IsKept same (value_at_point cmp s p) u) (sym (ap (option_map (λ (x : K × Stretch K V). x.1.value))
                 (found_behind _ (ahead cmp s a) (given ∷ back) (past cmp o a p (ahead cmp s a) front_ends (ap is_le (less_le o a b p range l)))
-                ∙ ap (λ t. cond (is_le (cmp a p) && t) (Some given) (stretch_at cmp back p)) (not_lt_from_le o b p l)
-                ∙ ap (λ t. cond t (Some given) (stretch_at cmp back p)) (and_false (is_le (cmp a p))))))
+                ∙ ap (λ t. cond (is_le (cmp key p) && t) (Some given) (stretch_at cmp back p)) (not_lt_from_le o b p l)
+                ∙ ap (λ t. cond t (Some given) (stretch_at cmp back p)) (and_false (is_le (cmp key p))))))
                 (rest_value same b rest is_rest p l);
           }
 
-          pub put_all : (t u : List (K × Stretch K V)) → t ≡ ahead cmp s a ++ back → u ≡ put cmp t a given.1
-              → AreApart cmp u × IsWritten cmp same a b (Some v) s u
-          put_all t u e f =
-              let is : u ≡ ahead cmp s a ++ given ∷ back = f ∙ ap (λ l. put cmp l a given.1) e ∙ put_given in
-              (subst (AreApart cmp) (sym is) put_apart, subst (IsWritten cmp same a b (Some v) s) (sym is) put_written)
+          pub put_all : (u : List (K × Stretch K V)) → u ≡ ahead cmp s a ++ given ∷ back → AreApart cmp u × IsWritten cmp same a b (Some v) s u
+          put_all u is = (subst (AreApart cmp) (sym is) put_apart, subst (IsWritten cmp same a b (Some v) s) (sym is) put_written)
+
+  -- a range in which no stretch goes on, since the last that starts before its end ends by its start
+  module _ (same : V → V → Type 0) (a b : K) (range : cmp a b ≡ Less) (by : EndsBy cmp a (last_item (below cmp s b))) where
+    all_by : EndBy cmp a (below cmp s b)
+    all_by = ends_by cmp o (below cmp s b) (apart_kept cmp _ s apart) a by
+
+    no_rest : (l : Option (K × Stretch K V)) → EndsBy cmp a l → EndsBy cmp b l
+    no_rest None h = tt
+    no_rest (Some y) h = not_lt_from_le o y.1.end b (ap is_le (le_less o y.1.end a b (le_from_not_lt o a y.1.end h) range))
+
+    start_before : (l : List (K × Stretch K V)) → AreApart cmp l → EndBy cmp a l → AllByRecursion (λ e. is_lt (cmp e.0 a) ≡ true) l
+    start_before [] h e = tt
+    start_before (x ∷ l) h e = (ap is_lt (less_le o x.0 x.1.end a h.0 e.0), start_before l h.2 e.1)
+
+    both : (e : K × Stretch K V) (r : Ordering) → cmp e.0 a ≡ r → (is_lt (cmp e.0 b) && is_lt r) ≡ is_lt r
+    both e Less h = ap (λ t. is_lt t && true) (o.trans e.0 a b h range)
+    both e Equal h = and_false (is_lt (cmp e.0 b))
+    both e Greater h = and_false (is_lt (cmp e.0 b))
+
+    one_front : below cmp s b ≡ below cmp s a
+    one_front = sym (kept (λ e. is_lt (cmp e.0 a)) (below cmp s b) (start_before (below cmp s b) (apart_kept cmp _ s apart) all_by))
+        ∙ filters_both (λ e. is_lt (cmp e.0 b)) (λ e. is_lt (cmp e.0 a)) (λ e. is_lt (cmp e.0 a)) (λ e. both e (cmp e.0 a) refl) s
+
+    free : s ≡ ahead cmp s a ++ not_below cmp s b
+    free = sym (halves b) ∙ ap (λ l. l ++ not_below cmp s b) (sym (nothing_ended cmp o a (below cmp s b) all_by) ∙ ap (map (ended cmp a)) one_front)
+
+    pub put_free : (g : Stretch K V) → g.end ≡ b → (u : List (K × Stretch K V)) → u ≡ put cmp s a g → AreApart cmp u × IsWritten cmp same a b (Some g.value) s u
+    put_free g end u is =
+        let none : IsRest cmp same s b None = no_rest (last_item (below cmp s b)) by in
+        put_all a b (ap is_le range) same None none range g.value a (tied_itself o a) u
+        (is ∙ ap (λ l. put cmp l a g) free ∙ put_given a b (ap is_le range) same None none range g
+        ∙ ap (λ e. ahead cmp s a ++ (a, let x : Stretch K V = record { end = e; value = g.value } in x) ∷ not_below cmp s b) end)
 
 -- what an empty range leaves as it is
 pub empty_written : {K V : Type 0} (cmp : K → K → Ordering) (o : IsTotalOrder cmp) (same : V → V → Type 0) (a b : K) (v : Option V)
@@ -283,7 +288,3 @@ empty_written cmp o same a b v s empty = record {
   ahead = λ p l. refl;
   behind = λ p l. kept_same same (value_at_point cmp s p);
 }
-
-pub places_after : {V : Type 0} (r : Option V) (n m : ℕ) → MatchOption r (n + 1 ≡ m) (λ _. n ≡ m) → m ≤ n + 1
-places_after None n m h = omega arith
-places_after (Some v) n m h = omega arith

@@ -1,9 +1,10 @@
 -- What the steps of a call make of a list of stretches.
-use Rattle.std.specs.Prelude.{◌≡◌, ℕ, true, false, cond, List, [], ◌∷◌, ◌++◌, Option, None, Some, map}
+use Rattle.std.specs.Prelude.{◌≡◌, Bool, true, false, cond, List, [], ◌∷◌, ◌++◌, Option, None, Some, map}
 use Rattle.std.specs.Ordering.{is_lt}
 use Rattle.std.specs.declared.cmp.Ordering.{Ordering}
 use Rattle.std.specs.declared.ops.Range.{Range}
 use Rattle.fc_base.specs.Halves.{not_below}
+use Rattle.fc_base.specs.OneKey.{cut}
 use Rattle.fc_base.specs.Parts.{below}
 use Rattle.fc_laws.specs.Words.{last_item}
 use Rattle.fc_intervals.specs.declared.stretch.Stretch.{Stretch}
@@ -16,10 +17,6 @@ module _ {K V : Type 0} (cmp : K → K → Ordering) where
   -- The stretches that start before a point, and end there at the latest.
   abbrev pub ahead : List (K × Stretch K V) → K → List (K × Stretch K V)
   ahead s a = map (ended a) (below cmp s a)
-
-  -- The stretches ahead of a range, and those that start behind it.
-  abbrev pub cleared : List (K × Stretch K V) → K → K → List (K × Stretch K V)
-  cleared s a b = ahead s a ++ not_below cmp s b
 
   -- The last stretch that starts before a point ends there or before.
   abbrev pub EndsBy : K → Option (K × Stretch K V) → Type 0
@@ -36,6 +33,13 @@ abbrev pub starting : {K V : Type 0} → K → Option (Stretch K V) → List (K 
 starting b None = []
 starting b (Some r) = (b, r) ∷ []
 
+-- What goes on behind a point starts there too, as a copy, where something does. A cut there takes it out again.
+pub record IsParted {K V : Type 0} (cmp : K → K → Ordering) (same : V → V → Type 0) (at : K) (is_parted : Bool) (old new : List (K × Stretch K V)) : Type 0 where
+  pub rest : Option (Stretch K V)
+  pub is_rest : IsRest cmp same old at rest
+  pub is : new ≡ below cmp old at ++ (starting at rest ++ not_below cmp old at)
+  pub undone : cond is_parted (cut cmp new at) new ≡ old
+
 -- The list after a range was cut out: what starts ahead of it, what goes on behind it, as a copy, and what starts behind it.
 pub record IsCut {K V : Type 0} (cmp : K → K → Ordering) (same : V → V → Type 0) (from to : K) (old new : List (K × Stretch K V)) : Type 0 where
   pub rest : Option (Stretch K V)
@@ -50,8 +54,3 @@ with_range cmp from to more = cond (is_lt (cmp from to)) ((record { start = from
 abbrev pub uncovered : {K V : Type 0} → (K → K → Ordering) → K → K → List (K × Stretch K V) → List (Range K)
 uncovered cmp from to [] = with_range cmp from to []
 uncovered cmp from to (e ∷ s) = with_range cmp from e.0 (uncovered cmp e.1.end to s)
-
--- How many stretches that makes.
-abbrev pub rest_count : {K V : Type 0} → Option (Stretch K V) → ℕ
-rest_count None = 0
-rest_count (Some r) = 1

@@ -3,6 +3,7 @@
 
 mod debug;
 pub mod gaps;
+mod joins;
 pub mod map;
 mod steps;
 pub mod stretch;

@@ -3,12 +3,13 @@ ghost use Rattle.std.specs.Prelude.{◌≡◌, ◌↔◌, ◌-◌, [], length, s
 ghost use Rattle.std.specs.Ordering.{is_lt, is_le};
 ghost use Rattle.std.specs.declared.cmp.Ordering.TheVariants.{Less};
 ghost use Rattle.fc_map.specs.Entries.{now_value};
+ghost use Rattle.fc_intervals.specs.Joined.{IsJoined, NoneJoint};
 ghost use Rattle.fc_intervals.specs.Steps.{IsCut};
 ghost use Rattle.fc_intervals.specs.Stretches.{AreApart, AreGaps, IsKept, IsLookUp, IsWritten, now_stretch, overlapping, stretch_at, value_at_point};
 
 use crate::gaps::Gaps;
-use crate::steps;
 use crate::stretch::Stretch;
+use crate::{joins, steps};
 use fc_base::{Count, Handle, TryClone, TryReserveError};
 use fc_map::map::{self, BTreeMap, Iter};
 use std::alloc::Global;
@@ -147,14 +148,33 @@ impl<K: Ord + Copy + Drop, V, A: Handle> IntervalMap<K, V, A> {
     }
 }
 
+impl<K: Ord + Copy + Drop, V: PartialEq + Drop, A: Handle> IntervalMap<K, V, A> {
+    /// Joins the stretch that ends at a point and the one that starts there, where both hold equal values: the first goes on to the end of the
+    /// second, whose value is dropped. Answers whether it did; else nothing changes. It undoes `split_at`; and a stretch that was put becomes one
+    /// with its neighbours by two calls, at both ends of its range. It takes no memory.
+    pub fn join_at(&mut self, at: K) -> bool
+        ensures joined { IsTrue result → IsJoined K.cmp V.eq at self.old self.new }
+        ensures values { (p : K) → IsKept (λ x y. V.eq y x ≡ true) (value_at_point K.cmp self.old p) (value_at_point K.cmp self.new p) }
+        ensures none { result ≡ false → NoneJoint K.cmp V.eq at self.old }
+        ensures unchanged { result ≡ false → self.new ≡ self.old }
+    {
+        let Some(end) = joins::joint_end(&self.map, at) else {
+            return false;
+        };
+        self.map.remove(&at);
+        joins::draw_out(&mut self.map, at, end);
+        true
+    }
+}
+
 impl<K: Ord + Copy + Drop, V: TryClone, A: Handle> IntervalMap<K, V, A> {
     /// Gives all points of a range, from its start up to, and without, its end, a value. Stretches that lie within the range are
     /// dropped, those across its ends are cut, and one across both is split. What goes on behind the range has a copy of its value.
     /// An empty range has no points: nothing changes, no memory is taken, and the value is dropped.
     ///
     /// # Errors
-    /// Where memory was refused: for the copy that goes on behind the range, by its own error; else for the nodes that the new stretches may need. All
-    /// of it is taken before the first change, so the map is as it was, and the value comes back.
+    /// Where memory was refused: for the copy that goes on behind the range, by its own error; else for a node that a new stretch needs, as `try_insert`
+    /// of the map. The map is then as it was, and the value comes back.
     pub fn put(&mut self, range: Range<K>, value: V) -> Result<(), (V, TryReserveError)>
         requires { V.can_clone }
         ensures written { OnOk result (IsWritten K.cmp V.same range.start range.end (Some value) self.old self.new) }
@@ -177,15 +197,7 @@ impl<K: Ord + Copy + Drop, V: TryClone, A: Handle> IntervalMap<K, V, A> {
         ensures unchanged { OnErr result (self.new ≡ self.old) }
         ensures back { IfErr result (λ e. e.0 ≡ value) }
     {
-        match steps::prepare(&self.map, end, 1) {
-            Ok((rest, mut reservation)) => {
-                let stretch = Stretch { end, value };
-                steps::clear(&mut self.map, &mut reservation, start, end, rest);
-                self.map.insert_reserved(&mut reservation, start, stretch);
-                Ok(())
-            }
-            Err(error) => Err((value, error)),
-        }
+        steps::put(&mut self.map, start, Stretch { end, value })
     }
 
     /// Takes the value of all points of a range, from its start up to, and without, its end. Stretches that lie within the range are
@@ -193,8 +205,8 @@ impl<K: Ord + Copy + Drop, V: TryClone, A: Handle> IntervalMap<K, V, A> {
     /// It takes memory only where something does. An empty range has no points: nothing changes.
     ///
     /// # Errors
-    /// Where memory was refused: for the copy that goes on behind the range, by its own error; else for the nodes that it may need. All
-    /// of it is taken before the first change, so the map is as it was.
+    /// Where memory was refused: for the copy that goes on behind the range, by its own error; else for a node that it needs, as `try_insert` of the
+    /// map. The map is then as it was.
     pub fn cut(&mut self, range: Range<K>) -> Result<(), TryReserveError>
         requires { V.can_clone }
         ensures written { OnOk result (IsWritten K.cmp V.same range.start range.end None self.old self.new) }
@@ -212,8 +224,8 @@ impl<K: Ord + Copy + Drop, V: TryClone, A: Handle> IntervalMap<K, V, A> {
     /// point, and the values of all points stay. Where none goes on across it, nothing changes, and no memory is taken.
     ///
     /// # Errors
-    /// Where memory was refused: for the copy, by its own error; else for the nodes that the second stretch may need. All of it is taken
-    /// before the first change, so the map is as it was.
+    /// Where memory was refused: for the copy, by its own error; else for a node that the second stretch needs, as `try_insert` of the map. The map
+    /// is then as it was.
     pub fn split_at(&mut self, at: K) -> Result<(), TryReserveError>
         requires { V.can_clone }
         ensures split { OnOk result (IsCut K.cmp V.same at at self.old self.new) }
@@ -231,8 +243,6 @@ impl<K: Ord + Copy + Drop, V: TryClone, A: Handle> IntervalMap<K, V, A> {
         ensures written { OnOk result (IsWritten K.cmp V.same start end None self.old self.new) }
         ensures unchanged { OnErr result (self.new ≡ self.old) }
     {
-        let (rest, mut reservation) = steps::prepare(&self.map, end, 0)?;
-        steps::clear(&mut self.map, &mut reservation, start, end, rest);
-        Ok(())
+        steps::clear(&mut self.map, start, end)
     }
 }

@@ -1,16 +1,22 @@
 //! The steps of the calls, on the map that holds stretches by their starts.
-ghost use Rattle.std.specs.Prelude.{◌≡◌, ◌+◌, ◌≤◌, ◌++◌, true, length, IfOk};
+ghost use Rattle.std.specs.Prelude.{◌≡◌, ◌++◌, true, cond, length, None, Some, IfOk, IfErr, OnOk, OnErr};
 ghost use Rattle.std.specs.Ordering.{is_le};
+ghost use Rattle.std.specs.declared.cmp.Ordering.TheVariants.{Less};
 ghost use Rattle.std.specs.declared.ops.Bound.TheVariants.{Included, Excluded};
 ghost use Rattle.fc_base.specs.Halves.{not_below};
+ghost use Rattle.fc_base.specs.OneKey.{cut, put as with_pair};
+ghost use Rattle.fc_base.specs.Parts.{below};
 ghost use Rattle.fc_base.specs.Ranges.{within};
 ghost use Rattle.fc_map.specs.Entries.{entries, now_pair};
-ghost use Rattle.fc_intervals.specs.Stretches.{AreApart, IsLookUp, overlapping, stretch_at};
-ghost use Rattle.fc_intervals.specs.Steps.{ahead, IsRest, rest_count, starting};
+ghost use Rattle.fc_map.specs.Ranged.{outside};
+ghost use Rattle.fc_laws.specs.Words.{last_item};
+ghost use Rattle.fc_intervals.specs.Stretches.{AreApart, IsLookUp, IsWritten, overlapping, stretch_at};
+ghost use Rattle.fc_intervals.specs.Steps.{ahead, EndsBy, IsCut, IsParted, IsRest};
 
 use crate::stretch::Stretch;
 use fc_base::{Count, Handle, TryClone, TryReserveError, compare};
-use fc_map::map::{BTreeMap, Reservation};
+use fc_map::map::BTreeMap;
+use std::ops::Bound;
 
 /// The stretch that covers a point, if one does.
 pub(crate) fn covering<'a, K: Ord, V, A: Handle>(
@@ -70,37 +76,57 @@ pub(crate) fn rest_behind<K: Ord + Copy, V: TryClone, A: Handle>(
     }))
 }
 
-/// How many stretches a rest makes.
-pub(crate) fn count_of<K, V>(rest: &Option<Stretch<K, V>>) -> usize
-    ensures count { result ≡ rest_count rest.now }
-    ensures at_most { result ≤ 1 }
+// Whether no stretch has a point in common with a range that is not empty.
+fn is_free<K: Ord + Copy, V, A: Handle>(map: &BTreeMap<K, Stretch<K, V>, A>, from: K, to: K) -> bool
+    ensures { result ≡ true → EndsBy K.cmp from (last_item (below K.cmp (entries map.now) to)) }
 {
-    match rest {
-        Some(_) => 1,
-        None => 0,
+    match map.last_before(&to) {
+        Some((_, stretch)) => !from.cmp(&stretch.end).is_lt(),
+        None => true,
     }
 }
 
-/// What goes on behind a point, and room for the stretch that it makes and `more`.
-pub(crate) fn prepare<K: Ord + Copy + Drop, V: TryClone, A: Handle>(
-    map: &BTreeMap<K, Stretch<K, V>, A>,
+// Puts a stretch in at a point.
+fn put_in<K: Ord + Copy + Drop, V: Drop, A: Handle>(
+    map: &mut BTreeMap<K, Stretch<K, V>, A>,
     at: K,
-    more: usize,
-) -> Result<(Option<Stretch<K, V>>, Reservation<K, Stretch<K, V>, A>), TryReserveError>
-    requires can { V.can_clone }
-    requires few { more ≤ 1 }
-    ensures rest { IfOk result (λ ready. IsRest K.cmp V.same (entries map.now) at ready.0) }
-    ensures places { IfOk result (λ ready. ready.1.places ≡ rest_count ready.0 + more) }
-    ensures pairs { IfOk result (λ ready. ready.1.pairs ≡ length (entries map.now) + (rest_count ready.0 + more)) }
+    stretch: Stretch<K, V>,
+) -> Result<(), (V, TryReserveError)>
+    ensures put { OnOk result (entries map.new ≡ with_pair K.cmp (entries map.old) at stretch) }
+    ensures unchanged { OnErr result (entries map.new ≡ entries map.old) }
+    ensures back { IfErr result (λ e. e.0 ≡ stretch.value) }
 {
-    let rest = rest_behind(map, at)?;
-    let reservation = map.try_reserve_nodes(count_of(&rest) + more)?;
-    Ok((rest, reservation))
+    match map.try_insert(at, stretch) {
+        Ok(old) => {
+            drop(old);
+            Ok(())
+        }
+        Err((_, stretch, error)) => Err((stretch.value, error)),
+    }
 }
 
-/// Has the last stretch that starts before a point end there, where it goes on behind it.
-pub(crate) fn end_at<K: Ord + Copy, V, A: Handle>(map: &mut BTreeMap<K, Stretch<K, V>, A>, at: K)
-    requires { AreApart K.cmp (entries map.old) }
+// Has what goes on behind a point start there too, and answers whether something does.
+fn part<K: Ord + Copy + Drop, V: TryClone, A: Handle>(
+    map: &mut BTreeMap<K, Stretch<K, V>, A>,
+    at: K,
+) -> Result<bool, TryReserveError>
+    requires can { V.can_clone }
+    requires apart { AreApart K.cmp (entries map.old) }
+    ensures parted { IfOk result (λ is_parted. IsParted K.cmp V.same at is_parted (entries map.old) (entries map.new)) }
+    ensures unchanged { OnErr result (entries map.new ≡ entries map.old) }
+{
+    let Some(rest) = rest_behind(map, at)? else {
+        return Ok(false);
+    };
+    if let Err((_, error)) = put_in(map, at, rest) {
+        return Err(error);
+    }
+    Ok(true)
+}
+
+// Has the last stretch that starts before a point end there, where it goes on behind it.
+fn end_at<K: Ord + Copy, V, A: Handle>(map: &mut BTreeMap<K, Stretch<K, V>, A>, at: K)
+    requires { AreApart K.cmp (below K.cmp (entries map.old) at) }
     ensures ended { entries map.new ≡ ahead K.cmp (entries map.old) at ++ not_below K.cmp (entries map.old) at }
 {
     if let Some(mut entry) = map.last_entry_before(&at) {
@@ -110,29 +136,88 @@ pub(crate) fn end_at<K: Ord + Copy, V, A: Handle>(map: &mut BTreeMap<K, Stretch<
     }
 }
 
-/// Leaves no stretch in a range: one that goes on into it ends there, those that start in it are dropped, and the rest behind it, if
-/// there is one, starts there. The rest takes a place of the room.
+// Puts a stretch in at a point, and leaves no other in its range. Where that was refused, what was parted at its end is one again.
+fn put_parted<K: Ord + Copy + Drop, V: Drop, A: Handle>(
+    map: &mut BTreeMap<K, Stretch<K, V>, A>,
+    from: K,
+    stretch: Stretch<K, V>,
+    is_parted: bool,
+) -> Result<(), (V, TryReserveError)>
+    requires { AreApart K.cmp (below K.cmp (entries map.old) from) }
+    ensures put { OnOk result (let s = with_pair K.cmp (entries map.old) from stretch in entries map.new ≡ outside K.cmp (Excluded from) (Excluded stretch.end) (ahead K.cmp s from ++ not_below K.cmp s from)) }
+    ensures undone { OnErr result (entries map.new ≡ cond is_parted (cut K.cmp (entries map.old) stretch.end) (entries map.old)) }
+    ensures back { IfErr result (λ e. e.0 ≡ stretch.value) }
+{
+    let to = stretch.end;
+    if let Err(refused) = put_in(map, from, stretch) {
+        if is_parted {
+            map.remove(&to);
+        }
+        return Err(refused);
+    }
+    end_at(map, from);
+    map.remove_range((Bound::Excluded(&from), Bound::Excluded(&to)));
+    Ok(())
+}
+
+// Puts a stretch in over others. What goes on behind it is put in first: no stretch is cut or dropped before all memory was taken.
+fn put_across<K: Ord + Copy + Drop, V: TryClone, A: Handle>(
+    map: &mut BTreeMap<K, Stretch<K, V>, A>,
+    from: K,
+    stretch: Stretch<K, V>,
+) -> Result<(), (V, TryReserveError)>
+    requires can { V.can_clone }
+    requires apart { AreApart K.cmp (entries map.old) }
+    requires range { K.cmp from stretch.end ≡ Less }
+    ensures apart { OnOk result (AreApart K.cmp (entries map.new)) }
+    ensures written { OnOk result (IsWritten K.cmp V.same from stretch.end (Some stretch.value) (entries map.old) (entries map.new)) }
+    ensures unchanged { OnErr result (entries map.new ≡ entries map.old) }
+    ensures back { IfErr result (λ e. e.0 ≡ stretch.value) }
+{
+    match part(map, stretch.end) {
+        Ok(is_parted) => put_parted(map, from, stretch, is_parted),
+        Err(error) => Err((stretch.value, error)),
+    }
+}
+
+/// Gives all points of a range that is not empty a value: those from a point to the end of the stretch.
+pub(crate) fn put<K: Ord + Copy + Drop, V: TryClone, A: Handle>(
+    map: &mut BTreeMap<K, Stretch<K, V>, A>,
+    from: K,
+    stretch: Stretch<K, V>,
+) -> Result<(), (V, TryReserveError)>
+    requires can { V.can_clone }
+    requires apart { AreApart K.cmp (entries map.old) }
+    requires range { K.cmp from stretch.end ≡ Less }
+    ensures apart { OnOk result (AreApart K.cmp (entries map.new)) }
+    ensures written { OnOk result (IsWritten K.cmp V.same from stretch.end (Some stretch.value) (entries map.old) (entries map.new)) }
+    ensures unchanged { OnErr result (entries map.new ≡ entries map.old) }
+    ensures back { IfErr result (λ e. e.0 ≡ stretch.value) }
+{
+    if is_free(map, from, stretch.end) {
+        put_in(map, from, stretch)
+    } else {
+        put_across(map, from, stretch)
+    }
+}
+
+/// Leaves no stretch in a range: one that goes on into it ends there, those that start in it are dropped, and what goes on behind it
+/// starts there.
 pub(crate) fn clear<K: Ord + Copy + Drop, V: TryClone, A: Handle>(
     map: &mut BTreeMap<K, Stretch<K, V>, A>,
-    reservation: &mut Reservation<K, Stretch<K, V>, A>,
     from: K,
     to: K,
-    rest: Option<Stretch<K, V>>,
-)
+) -> Result<(), TryReserveError>
+    requires can { V.can_clone }
     requires apart { AreApart K.cmp (entries map.old) }
     requires range { is_le (K.cmp from to) ≡ true }
-    requires rest { IsRest K.cmp V.same (entries map.old) to rest }
-    requires place { rest_count rest ≤ reservation.old.places }
-    requires fits { length (entries map.old) + rest_count rest ≤ reservation.old.pairs }
-    ensures cleared { entries map.new ≡ ahead K.cmp (entries map.old) from ++ (starting to rest ++ not_below K.cmp (entries map.old) to) }
-    ensures places { reservation.old.places ≤ reservation.new.places + rest_count rest }
-    ensures pairs { reservation.new.pairs ≡ reservation.old.pairs }
-    ensures fits { length (entries map.new) + reservation.new.places ≤ length (entries map.old) + reservation.old.places }
+    ensures cut { OnOk result (IsCut K.cmp V.same from to (entries map.old) (entries map.new)) }
+    ensures apart { OnOk result (AreApart K.cmp (entries map.new)) }
+    ensures written { OnOk result (IsWritten K.cmp V.same from to None (entries map.old) (entries map.new)) }
+    ensures unchanged { OnErr result (entries map.new ≡ entries map.old) }
 {
+    part(map, to)?;
     end_at(map, from);
     map.remove_range(from..to);
-    let Some(rest) = rest else {
-        return;
-    };
-    map.insert_reserved(reservation, to, rest);
+    Ok(())
 }

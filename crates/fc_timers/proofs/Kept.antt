@@ -13,7 +13,7 @@ use Rattle.fc_timers.specs.declared.slot.Slot.{Slot}
 use Rattle.fc_timers.specs.Timers.{Queue, armed, renewed, timer_count, IsChanged, IsPopped}
 use Rattle.fc_timers.specs.Tournament.{helds, firsts, nexts, own_first, earlier, IsSettledBut, IsFirst, IsGivenOut, IsSound, IsVacantList}
 use Rattle.fc_timers.proofs.Listed.{listed_ahead, listed_as, listed_new, listed_rest, listed_still}
-use Rattle.fc_timers.proofs.Standing.{given_out_set, get_or_push_none, in_slot, slot_changed, none_numbered, not_later, some_numbered}
+use Rattle.fc_timers.proofs.Standing.{given_out_set, get_or_push_none, in_slot, IsNext, slot_changed, none_numbered, not_later, some_numbered}
 
 abbrev one : {X : Type 0} → Option X → ℕ
 one o = cond (is_some o) 1 0
@@ -46,8 +46,7 @@ module _ {T V : Type 0} {cmp : T → T → Ordering} (slots new : List (Slot T V
   inside : k < length (helds slots)
   inside = omega (arith, (lengths slots).0)
 
-  given_out : (x : Option (Armed T V)) (m : ℕ) → helds new ≡ set (helds slots) k x → n ≤ m → ((a : Armed T V) → x ≡ Some a → (a.number < m) × (a.turn < m))
-      → IsGivenOut (helds new) m
+  given_out : (x : Option (Armed T V)) (m : ℕ) → helds new ≡ set (helds slots) k x → n ≤ m → IsNext n m x → IsGivenOut (helds new) m
   given_out x m written more below = rw written (given_out_set (helds slots) k n m x inside more below sound.given_out)
 
   as_long : (x : Option (Armed T V)) → helds new ≡ set (helds slots) k x → length new ≡ length slots
@@ -61,7 +60,8 @@ module _ {T V : Type 0} {cmp : T → T → Ordering} (slots new : List (Slot T V
     counted = omega (arith, sound.counted, ap (count_by is_some) written, count_filled (helds slots) k inside a listed.1);
     given_out = given_out (Some a) (n + 1) written (omega arith) (λ b e.
         let same : a ≡ b = cc in
-        (omega (arith, ap (λ (x : Armed T V). x.number) same), omega (arith, ap (λ (x : Armed T V). x.turn) same)));
+        let turns = ap (λ (x : Armed T V). x.turn) same in
+        (omega (arith, ap (λ (x : Armed T V). x.number) same), omega (arith, turns), omega (arith, turns)));
     vacancies = m;
     total = omega (arith, as_long (Some a) written);
     listed = listed_as _ _ _ _ m _ written named (listed_rest (helds slots) (nexts slots) m k (omega (arith, (lengths slots).0)) (Some a) listed);
@@ -92,7 +92,8 @@ module _ {T V : Type 0} {cmp : T → T → Ordering} (slots new : List (Slot T V
     given_out = given_out (Some b) (n + 1) written (omega arith) (λ d e.
         let same : b ≡ d = cc in
         let below = sound.given_out.below k a was in
-        (omega (arith, ap (λ (x : Armed T V). x.number) same), omega (arith, ap (λ (x : Armed T V). x.turn) same)));
+        let turns = ap (λ (x : Armed T V). x.turn) same in
+        (omega (arith, ap (λ (x : Armed T V). x.number) same), omega (arith, turns), omega (arith, turns)));
     vacancies = sound.vacancies;
     total = omega (arith, sound.total, as_long (Some b) written);
     listed = listed_as _ _ _ _ sound.vacancies vacant written named
@@ -128,7 +129,10 @@ module _ {T V : Type 0} {cmp : T → T → Ordering} (slots : List (Slot T V)) (
               (earlier cmp (get_or_push_none (firsts slots) (2 * k + 1) i) (get_or_push_none (firsts slots) (2 * k + 2) i)));
         };
         counted = rw more (omega (arith, sound.counted, sum_by_push one (helds slots) None));
-        given_out = rw more record { below = λ k a e. sound.given_out.below k a (sym (get_or_push_none (helds slots) k) ∙ e) };
+        given_out = rw more record {
+          below = λ k a e. sound.given_out.below k a (sym (get_or_push_none (helds slots) k) ∙ e);
+          distinct = λ j k a b e f. sound.given_out.distinct j k a b (sym (get_or_push_none (helds slots) j) ∙ e) (sym (get_or_push_none (helds slots) k) ∙ f);
+        };
         vacancies = suc sound.vacancies;
         total = omega (arith, sound.total, length_push slots last);
         listed = listed_as _ _ _ _ (suc sound.vacancies) at more linked

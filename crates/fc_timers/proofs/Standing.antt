@@ -97,14 +97,51 @@ module _ {T V : Type 0} where
     ];
   }
 
-  -- Numbers and turns stay below the next one where a slot changes.
-  pub given_out_set : (h : List (Option (Armed T V))) (k n m : ℕ) (x : Option (Armed T V)) → k < length h → n ≤ m
-      → ((a : Armed T V) → x ≡ Some a → (a.number < m) × (a.turn < m)) → IsGivenOut h n → IsGivenOut (set h k x) m
-  given_out_set h k n m x within more new old = record {
-    below = λ j a e. elim (cases_eq j k) [
-      | inl same ↦ new a (sym (get_or-set_same h k x None within) ∙ ap (λ i. get_or (set h k x) i None) (sym same) ∙ e)
-      | inr other ↦ let was = old.below j a (sym (get_or-set_other h k j x None other) ∙ e) in (omega arith, omega arith)
-    ];
+  -- What is put in a slot has a number and a turn below m, and a turn from n on.
+  abbrev pub IsNext : ℕ → ℕ → Option (Armed T V) → Type 0
+  IsNext n m x = (a : Armed T V) → x ≡ Some a → (a.number < m) × (a.turn < m) × (n ≤ a.turn)
+
+  -- Numbers and turns stay below the next one, and turns apart, where a slot changes.
+  module _ (h : List (Option (Armed T V))) (k n m : ℕ) (x : Option (Armed T V)) (within : k < length h) (more : n ≤ m) (new : IsNext n m x)
+      (old : IsGivenOut h n) where
+    put_in : (j : ℕ) (a : Armed T V) → j ≡ k → get_or (set h k x) j None ≡ Some a → x ≡ Some a
+    put_in j a same e = sym (get_or-set_same h k x None within) ∙ ap (λ i. get_or (set h k x) i None) (sym same) ∙ e
+
+    left : (j : ℕ) (a : Armed T V) → j ≢ k → get_or (set h k x) j None ≡ Some a → get_or h j None ≡ Some a
+    left j a other e = sym (get_or-set_other h k j x None other) ∙ e
+
+    apart : (a b : Armed T V) (j : ℕ) → x ≡ Some a → get_or h j None ≡ Some b → a.turn ≢ b.turn
+    apart a b j e f same = let at_least = new a e in let was = old.below j b f in absurd (omega arith)
+
+    pub given_out_set : IsGivenOut (set h k x) m
+    given_out_set = record {
+      below = λ j a e. elim (cases_eq j k) [
+        | inl same ↦ let is = new a (put_in j a same e) in (is.0, is.1)
+        | inr other ↦ let was = old.below j a (left j a other e) in (omega arith, omega arith)
+      ];
+      distinct = λ i j a b e f turns. elim (cases_eq i k) [
+        | inl here ↦ elim (cases_eq j k) [
+          | inl there ↦ here ∙ sym there
+          | inr there ↦ absurd (apart a b j (put_in i a here e) (left j b there f) turns)
+        ]
+        | inr here ↦ elim (cases_eq j k) [
+          | inl there ↦ absurd (apart b a i (put_in j b there f) (left i a here e) (sym turns))
+          | inr there ↦ old.distinct i j a b (left i a here e) (left j b there f) turns
+        ]
+      ];
+    }
+
+  -- The timers of a queue have turns that were given out, each one of its own.
+  pub are_given_out : (q : Queue T V) → IsGivenOut q.slots q.next_number → AreGivenOut q
+  are_given_out q given = record {
+    turns = λ timer a e. (given.below timer.slot a (in_slot q timer a e).0).1;
+    distinct = λ one other a b e f turns.
+        let here = in_slot q one a e in
+        let there = in_slot q other b f in
+        let slot : one.slot ≡ other.slot = given.distinct one.slot other.slot a b here.0 there.0 turns in
+        let same : a ≡ b = let both : Some a ≡ Some b = sym here.0 ∙ ap (λ k. get_or q.slots k None) slot ∙ there.0 in cc in
+        let number : one.number ≡ other.number = sym here.1 ∙ ap (λ x. x.number) same ∙ there.1 in
+        λ i. record { slot = slot i; number = number i };
   }
 
   pub count_none : (h : List (Option (Armed T V))) → ((k : ℕ) → get_or h k None ≡ None) → count_by is_some h ≡ 0

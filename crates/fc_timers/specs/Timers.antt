@@ -1,5 +1,7 @@
 -- Timers of a queue: what stands at each, and which of them comes out first.
-use Rattle.std.specs.Prelude.{◌≡◌, ◌≢◌, ℕ, ◌<◌, ◌==◌, leb, Bool, true, false, if◌then◌else◌, List, Option, Some, None, is_some, count_by, slice_index_or}
+use Rattle.std.specs.Prelude.{◌≡◌, ◌≢◌, ℕ, ◌+◌, ◌<◌, ◌==◌, leb, Bool, true, false, if◌then◌else◌, List, [], ◌∷◌, length}
+use Rattle.std.specs.Prelude.{Option, Some, None, is_some, count_by, slice_index_or}
+use Rattle.std.specs.Fn.{Mut, Called}
 use Rattle.std.specs.Ordering.{is_le, is_gt}
 use Rattle.std.specs.declared.cmp.Ordering.{Ordering}
 use Rattle.std.specs.declared.cmp.Ordering.TheVariants.{Less, Equal, Greater}
@@ -41,13 +43,18 @@ module _ {T V : Type 0} where
     pub here : armed new timer ≡ now
     pub others : (other : Timer) → other ≢ timer → armed new other ≡ armed old other
 
-  -- Each timer of the queue has a turn that was given out, so that the next one is behind all.
+  -- Each timer of the queue has a turn that was given out, so that the next one is behind all, and no two have the same.
   pub record AreGivenOut (q : Queue T V) : Type 0 where
     pub turns : (timer : Timer) (a : Armed T V) → armed q timer ≡ Some a → a.turn < q.next_number
+    pub distinct : (one other : Timer) (a b : Armed T V) → armed q one ≡ Some a → armed q other ≡ Some b → a.turn ≡ b.turn → one ≡ other
 
   -- No timer is in the queue.
   abbrev pub HasNone : Queue T V → Type 0
   HasNone q = (timer : Timer) → armed q timer ≡ None
+
+-- A call of h with the time and the value may leave h'.
+abbrev pub GivenTimer : {E T V : Type 0} → Mut E (T × (V × Unit {0})) (Unit {0}) → E → T × V → E → Type 0
+GivenTimer g h pair h' = Called g h (pair.0, (pair.1, tt)) tt h'
 
 -- Whether a time and a turn come first: by the time, and at one time by the turn.
 abbrev pub by_turn : Ordering → Bool → Bool
@@ -77,6 +84,19 @@ module _ {T V : Type 0} (cmp : T → T → Ordering) where
     pub earliest : IsEarliest old timer taken
     pub due : is_le (cmp taken.at now) ≡ true
     pub changed : IsChanged old new timer None
+
+  -- Timers that were due at this time, with these times and values, came out one after another, each the earliest, and calls by R with them in turn
+  -- took f to f'.
+  abbrev pub DrainsInTurn : {F : Type 0} → (F → T × V → F → Type 0) → T → F → List (T × V) → F → Queue T V → Queue T V → Type 0
+  DrainsInTurn R now f [] f' old new = (f' ≡ f) × (new ≡ old)
+  DrainsInTurn {F} R now f (pair ∷ pairs) f' old new =
+      (g : F) × (next : Queue T V) × IsPopped old next now pair × R f pair g × DrainsInTurn R now g pairs f' next new
+
+  -- The same, of so many timers as are fewer.
+  pub record IsDrained {F : Type 0} (R : F → T × V → F → Type 0) (now : T) (f f' : F) (old new : Queue T V) : Type 0 where
+    pub pairs : List (T × V)
+    pub in_turn : DrainsInTurn R now f pairs f' old new
+    pub fewer : timer_count old ≡ timer_count new + length pairs
 
   -- No timer is due at this time.
   abbrev pub NoneDue : Queue T V → T → Type 0

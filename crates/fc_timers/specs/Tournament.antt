@@ -26,9 +26,10 @@ module _ {T V : Type 0} where
   own_first k None = None
   own_first k (Some a) = Some (record { at = a.at; turn = a.turn; slot = k })
 
-  -- Each timer has a number and a turn below this one.
+  -- Each timer has a number and a turn below this one, and no two have one turn.
   pub record IsGivenOut (held : List (Option (Armed T V))) (next_number : ℕ) : Type 0 where
     pub below : (k : ℕ) (a : Armed T V) → slice_index_or held k None ≡ Some a → (a.number < next_number) × (a.turn < next_number)
+    pub distinct : (j k : ℕ) (a b : Armed T V) → slice_index_or held j None ≡ Some a → slice_index_or held k None ≡ Some b → a.turn ≡ b.turn → j ≡ k
 
 module _ {T : Type 0} (cmp : T → T → Ordering) where
   -- That of the two which is due first.
@@ -51,7 +52,7 @@ module _ {T V : Type 0} (cmp : T → T → Ordering) where
   pub record IsSettledBut (held : List (Option (Armed T V))) (first : List (Option (First T))) (n : ℕ) : Type 0 where
     pub settled : (k : ℕ) → k + 1 ≢ n → IsSettled held first k
 
-  -- The slots are a tournament; so many hold a timer; each of these has a number and a turn below this one; and the others are listed from this slot on.
+  -- The slots are a tournament; so many hold a timer; each of these has a number and a turn below this one, and a turn of its own; and the others are listed from this slot on.
   pub record IsSound (slots : List (Slot T V)) (len next_number vacant : ℕ) : Type 0 where
     pub settled : IsSettledBut (helds slots) (firsts slots) 0
     pub counted : len ≡ count_by is_some (helds slots)

@@ -2,7 +2,7 @@
 ghost use Rattle.std.specs.Prelude.{◌≡◌, ℕ, ◌==◌, ◌∷◌, ◌++◌, [], if◌then◌else◌, ◌+◌, ◌<◌, ◌≤◌, ◌⊎◌, ◌↔◌, IsTrue, IfSome, IfNone, OnSome, IfOk, IfErr, OnOk, OnErr, IsErr, IsOk, IsSome, Some, None, count_by, is_some, length, map, slice_index_or, slice_set, option_copied};
 ghost use Rattle.std.specs.Option.{option_map};
 ghost use Rattle.fc_base.specs.declared.try_reserve_error.TryReserveError.{TryReserveError as Error};
-ghost use Rattle.fc_timers.specs.Timers.{AreGivenOut, HasNone, IsChanged, IsEarliest, IsPopped, NoneDue, armed, newly, renewed, timer_count};
+ghost use Rattle.fc_timers.specs.Timers.{AreGivenOut, GivenTimer, HasNone, IsChanged, IsDrained, IsEarliest, IsPopped, NoneDue, armed, newly, renewed, timer_count};
 ghost use Rattle.fc_timers.specs.Tournament.{IsFirst};
 ghost use Rattle.fc_timers.specs.declared.timer.Armed.{Armed as Held};
 ghost use Rattle.fc_timers.specs.declared.timer.Timer.{Timer as Key};
@@ -16,7 +16,7 @@ use std::marker::Model;
 
 /// Timers with their times and values, which come out in the order of their times, and those of equal times in the order in which they were
 /// inserted. A call takes a number of steps that grows with the logarithm of the most timers that the queue held at once. Only `try_insert`
-/// takes memory.
+/// and `try_reserve` take memory.
 #[derive(Drop)]
 pub struct TimerQueue<T: Ord, V, A: Handle = Global> {
     slots: Vec<Slot<T, V>, A>,
@@ -313,6 +313,20 @@ impl<T: Ord + Copy + Drop, V: Drop, A: Handle> TimerQueue<T, V, A> {
             None
         } else {
             self.take(first.slot)
+        }
+    }
+
+    /// Takes out all timers that are due at this time, and calls the closure with the time and value of each, in the order in which they come
+    /// out. It takes no memory.
+    pub fn drain_due<F: FnMut(T, V)>(&mut self, now: &T, mut f: F)
+        requires callable { F.IsAlwaysCallable f }
+        ensures drained { (last : F) × IsDrained T.cmp (GivenTimer F.FnMut) now.now f last self.old self.new }
+        ensures none { NoneDue T.cmp self.new now.now }
+        ensures number { self.new.next_number ≡ self.old.next_number }
+        ensures room { self.new.room ≡ self.old.room }
+    {
+        'due: while let Some((at, value)) = self.pop_due(now) {
+            f(at, value);
         }
     }
 }

@@ -1,5 +1,5 @@
 -- Where ascending keys are cut by a bound of a range.
-use Rattle.std.specs.Prelude.{◌≡◌, ℕ, ◌-◌, ◌<◌, ◌≤◌, Bool, true, false, not, ◌&&◌, List, length, filter, slice_index_or}
+use Rattle.std.specs.Prelude.{◌≡◌, ℕ, ◌-◌, ◌<◌, ◌≤◌, Bool, true, false, not, ◌&&◌, if◌then◌else◌, List, length, filter, slice_index_or}
 use Rattle.std.specs.Ordering.{is_lt, is_le}
 use Rattle.std.specs.declared.cmp.Ordering.{Ordering}
 use Rattle.std.specs.declared.ops.Bound.{Bound}
@@ -18,6 +18,10 @@ abbrev pub stop_cut : {Q : Type 0} → Bound Q → Cut Q
 stop_cut (Included q) = After q
 stop_cut (Excluded q) = Before q
 stop_cut Unbounded = Last
+
+-- Whether what stands so to what is sought is in front of it, or is equal where the flag says so.
+abbrev pub lies_ahead : Bool → Ordering → Bool
+lies_ahead takes_equal r = if takes_equal then is_le r else is_lt r
 
 module _ {K Q S : Type 0} (order : K → S → Ordering) (sought : Q → S) where
   -- Whether a key lies in front of a cut.

@@ -1,11 +1,11 @@
 //! Where the keys of a tree are cut by a bound of a range, and the place of a cut in a node.
-ghost use Rattle.std.specs.Prelude.{◌≡◌, ◌≤◌, ◌⊎◌, length, IsTrue};
-ghost use Rattle.std.specs.Ordering.{is_lt, is_le};
+ghost use Rattle.std.specs.Prelude.{◌≡◌, ◌≤◌, length};
 ghost use Rattle.fc_tree_node.specs.Node.{own_pairs};
-ghost use Rattle.fc_tree_cursor.specs.Cut.{start_cut, stop_cut, leads, IsTurn};
+ghost use Rattle.fc_tree_cursor.specs.Cut.{start_cut, stop_cut, leads, lies_ahead, IsTurn};
 
 use fc_base::{Handle, Query};
 use fc_tree_node::node::Node;
+use std::cmp::Ordering;
 use std::ops::Bound;
 
 /// A cut between ascending keys, by what they are searched by.
@@ -43,16 +43,6 @@ pub(crate) fn stop_of<Q: Copy>(hi: &Bound<Q>) -> Cut<Q>
     }
 }
 
-/// Whether one of the two ends of a range has no bound.
-pub(crate) fn is_open<Q: Copy>(start: &Cut<Q>, stop: &Cut<Q>) -> bool
-    ensures { IsTrue result → (start.now ≡ Cut.First) ⊎ (stop.now ≡ Cut.Last) }
-{
-    match (start, stop) {
-        (Cut::First, _) | (_, Cut::Last) => true,
-        _ => false,
-    }
-}
-
 /// The first of the node's own pairs from a place on that is not in front of the cut, or their end.
 pub(crate) fn place_in<K: Ord, V, Q: Query<K>, A: Handle>(
     node: &Node<K, V, A>,
@@ -64,46 +54,41 @@ pub(crate) fn place_in<K: Ord, V, Q: Query<K>, A: Handle>(
 {
     match cut {
         Cut::First => from,
-        Cut::Before(key) => first_not_below(node, *key, from),
-        Cut::After(key) => first_above(node, *key, from),
+        Cut::Before(key) => first_not_ahead(node, *key, false, from),
+        Cut::After(key) => first_not_ahead(node, *key, true, from),
         Cut::Last => node.len(),
     }
 }
 
-// The first of the node's own pairs from a place on whose key is not below what is sought, or their end.
+// The first of the node's own pairs from a place on whose key is not in front of what is sought, or their end.
+#[inline(always)]
 #[tactic(auto, using(crate::proofs::Turns::held_on, crate::proofs::Turns::not_there))]
-fn first_not_below<K: Ord, V, Q: Query<K>, A: Handle>(
+fn first_not_ahead<K: Ord, V, Q: Query<K>, A: Handle>(
     node: &Node<K, V, A>,
     key: Q,
+    takes_equal: bool,
     from: usize,
 ) -> usize
     requires { from ≤ length (own_pairs node.now) }
-    ensures { IsTurn (λ e. is_lt (Q.order e.0 (Q.sought key))) (own_pairs node.now) from result }
+    ensures { IsTurn (λ e. lies_ahead takes_equal (Q.order e.0 (Q.sought key))) (own_pairs node.now) from result }
 {
     let n = node.len();
     for i in from..n {
-        if !key.order_of(&node.pair(i).0).is_lt() {
+        if !lies_ahead(key.order_of(&node.pair(i).0), takes_equal) {
             return i;
         }
     }
     n
 }
 
-// The first of the node's own pairs from a place on whose key is above what is sought, or their end.
-#[tactic(auto, using(crate::proofs::Turns::held_on, crate::proofs::Turns::not_there))]
-fn first_above<K: Ord, V, Q: Query<K>, A: Handle>(
-    node: &Node<K, V, A>,
-    key: Q,
-    from: usize,
-) -> usize
-    requires { from ≤ length (own_pairs node.now) }
-    ensures { IsTurn (λ e. is_le (Q.order e.0 (Q.sought key))) (own_pairs node.now) from result }
+// Whether a key that stands so to what is sought is in front of it, or is equal where the flag says so.
+#[inline(always)]
+fn lies_ahead(order: Ordering, takes_equal: bool) -> bool
+    ensures { result ≡ lies_ahead takes_equal order }
 {
-    let n = node.len();
-    for i in from..n {
-        if !key.order_of(&node.pair(i).0).is_le() {
-            return i;
-        }
+    if takes_equal {
+        order.is_le()
+    } else {
+        order.is_lt()
     }
-    n
 }

@@ -16,7 +16,7 @@ ghost use Rattle.fc_tree_cursor.specs.Cut.{leads, ahead, amid, TurnsAt};
 ghost use Rattle.fc_tree_cursor.specs.Gap.{AreEndsIn, IsGapIn, GoesOn, EndsIn};
 ghost use Rattle.fc_tree_cursor.specs.Span.{IsPart};
 
-use crate::cuts::{Cut, is_open, place_in, start_of, stop_of};
+use crate::cuts::{Cut, place_in, start_of, stop_of};
 use crate::gaps::{push_first, push_last};
 use fc_base::{Handle, Query};
 use fc_tree_node::node::Node;
@@ -70,34 +70,26 @@ pub fn range_gaps_in<K: Ord, V, Q: Query<K>, A: Handle>(
     (front, back)
 }
 
-/// Fills two paths of no step with the ways to the gaps between which the pairs of a range lie, and answers their leaves.
-#[tactic(auto, using(crate::proofs::Turns::turn_first))]
+/// Fills two paths of no step with the ways to the gaps between which the pairs of a range lie, and answers the leaf of the first.
 pub(crate) fn push_ends<'a, K: Ord, V, Q: Query<K>, A: Handle>(
     root: &'a Node<K, V, A>,
     lo: &Bound<Q>,
     hi: &Bound<Q>,
     front: &mut Path,
     back: &mut Path,
-) -> (&'a Node<K, V, A>, &'a Node<K, V, A>)
+) -> &'a Node<K, V, A>
     requires levels { IsTree root.now }
     requires order { IsAscending K.cmp (pairs_of root.now) }
     requires start { (front.old ≡ []) × (back.old ≡ []) }
     ensures gaps { IsLeafGap front.new root.now × IsLeafGap back.new root.now }
-    ensures leaves { (result.0.now ≡ leaf_at front.new root.now) × (result.1.now ≡ leaf_at back.new root.now) }
+    ensures leaf { result.now ≡ leaf_at front.new root.now }
     ensures front { length (before_gap front.new root.now) + length (filter (λ e. starts Q.order (bound_by Q.sought lo.now) e.0) (pairs_of root.now)) ≡ length (pairs_of root.now) }
     ensures back { length (before_gap back.new root.now) ≡ length (before_gap front.new root.now) + length (within Q.order (bound_by Q.sought lo.now) (bound_by Q.sought hi.now) (pairs_of root.now)) }
 {
-    let (lo, hi) = (start_of(lo), stop_of(hi));
-    if is_open(&lo, &hi) {
-        // An end without a bound needs no search, so the two ways are gone one by one.
-        let first = push_cut(root, place_in(root, &lo, 0), &lo, front);
-        let last = push_cut(root, place_in(root, &hi, 0), &hi, back);
-        return (first, last);
-    }
-    push_both(root, &lo, &hi, front, back)
+    push_both(root, &start_of(lo), &stop_of(hi), front, back)
 }
 
-// Goes on to the gaps at two cuts below the node, the second not in front of the first, and answers their leaves.
+// Goes on to the gaps at two cuts below the node, the second not in front of the first, and answers the leaf of the first.
 #[tactic(auto, using(crate::proofs::Turns::turn_first, crate::proofs::Turns::turn_later))]
 fn push_both<'a, K: Ord, V, Q: Query<K>, A: Handle>(
     node: &'a Node<K, V, A>,
@@ -105,26 +97,23 @@ fn push_both<'a, K: Ord, V, Q: Query<K>, A: Handle>(
     hi: &Cut<Q>,
     front: &mut Path,
     back: &mut Path,
-) -> (&'a Node<K, V, A>, &'a Node<K, V, A>)
+) -> &'a Node<K, V, A>
     requires levels { (h : ℕ) × IsLevelled h node.now × (length front.old + h < most_levels) × (length back.old + h < most_levels) }
     requires order { IsAscending K.cmp (pairs_of node.now) }
     ensures front { GoesOn front.old front.new node.now (ahead Q.order Q.sought lo.now (pairs_of node.now)) }
     ensures back { GoesOn back.old back.new node.now (ahead Q.order Q.sought lo.now (pairs_of node.now) + amid Q.order Q.sought lo.now hi.now (pairs_of node.now)) }
-    ensures first { EndsIn front.old front.new node.now result.0.now }
-    ensures last { EndsIn back.old back.new node.now result.1.now }
+    ensures leaf { EndsIn front.old front.new node.now result.now }
 {
     let start = place_in(node, lo, 0);
     let stop = place_in(node, hi, start);
     if start < stop {
-        return (
-            push_cut(node, start, lo, front),
-            push_cut(node, stop, hi, back),
-        );
+        push_cut(node, stop, hi, back);
+        return push_cut(node, start, lo, front);
     }
     front.push(start);
     back.push(start);
     if node.is_leaf() {
-        return (node, node);
+        return node;
     }
     push_both(node.child(start), lo, hi, front, back)
 }

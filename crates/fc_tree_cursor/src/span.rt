@@ -292,7 +292,7 @@ fn start_within<'a, K: Ord, V, Q: Query<K>, A: Handle>(
     };
     let mut run: &'a [(K, V)] = &[];
     let mut has_met = true;
-    if !is_bounded(hi) {
+    if let Bound::Unbounded = hi {
         push_start(node, &start_of(lo), front, &mut run, &mut has_met);
         return Runs {
             head: run,
@@ -300,7 +300,7 @@ fn start_within<'a, K: Ord, V, Q: Query<K>, A: Handle>(
             has_met,
         };
     }
-    if !is_bounded(lo) {
+    if let Bound::Unbounded = lo {
         push_stop(node, &stop_of(hi), back, &mut run, &mut has_met);
         return Runs {
             head: &[],
@@ -308,22 +308,12 @@ fn start_within<'a, K: Ord, V, Q: Query<K>, A: Handle>(
             has_met,
         };
     }
-    let (first, _last) = push_ends(node, lo, hi, front, back);
+    let first = push_ends(node, lo, hi, front, back);
     (run, has_met) = take_first_of(root, first, front, back);
     Runs {
         head: run,
         tail: &[],
         has_met,
-    }
-}
-
-// Whether a range has an end on this side.
-fn is_bounded<Q: Copy>(bound: &Bound<Q>) -> bool
-    ensures { (result ≡ false) → (bound.now ≡ Bound.Unbounded) }
-{
-    match bound {
-        Bound::Unbounded => false,
-        _ => true,
     }
 }
 

@@ -1,5 +1,6 @@
 -- What a walk of calls leaves of a list of pairs, and of a map.
 use Rattle.std.proofs.Common.{◌≡◌, ℕ, ◌+◌, ◌≤◌, List, [], ◌∷◌, ◌++◌, length, map, take, drop, Option, Some, None, refl, sym, ap, subst, ◌∙◌, arith}
+use Rattle.std.proofs.Math.Seq.{take-append_seam, drop-append_seam}
 use Rattle.std.proofs.lemmas.List.{length-map, map-append, length-append}
 use Rattle.std.specs.List.{AllByRecursion}
 use Rattle.std.specs.declared.cmp.Ordering.{Ordering}
@@ -14,15 +15,6 @@ use Rattle.fc_tree_node.proofs.Lists.{take_nil, drop_nil}
 use Rattle.fc_tree_node.proofs.Gaps.{gap_pairs}
 use Rattle.fc_tree_cursor.specs.Gap.{AreEndsIn}
 use Rattle.fc_tree_for_each.specs.Visits.{VisitsInTurn, IsVisited}
-
-module _ {X : Type 0} where
-  take_front : (xs ys : List X) → take (length xs) (xs ++ ys) ≡ xs
-  take_front [] ys = refl
-  take_front (x ∷ xs) ys = ap (λ zs. x ∷ zs) (take_front xs ys)
-
-  drop_front : (xs ys : List X) → drop (length xs) (xs ++ ys) ≡ ys
-  drop_front [] ys = refl
-  drop_front (x ∷ xs) ys = drop_front xs ys
 
 module _ {K V : Type 0} where
   abbrev none : List (K × V)
@@ -88,8 +80,8 @@ module _ {F K V Z : Type 0} (R : F → K × V → F → V → Type 0) where
       let l = s.2.1 in
       let cf = gap_pairs front h n l (e.0.1 h l) e.0.0 in
       let cb = gap_pairs back h n l (e.1.1 h l) e.1.0 in
-      let tf = ap (take (length (before_gap front n))) cf ∙ take_front (before_gap front n) (after_gap front n) in
-      let db = ap (drop (length (before_gap back n))) cb ∙ drop_front (before_gap back n) (after_gap back n) in
+      let tf = ap (take (length (before_gap front n))) cf ∙ take-append_seam (before_gap front n) (after_gap front n) in
+      let db = ap (drop (length (before_gap back n))) cb ∙ drop-append_seam (before_gap back n) (after_gap back n) in
       let Left : List (K × V) → List (K × V) → Type 0 = λ x y. IsVisited R f g x y (pairs_of n) (pairs_of n') in
       let u : Left (before_gap front n) (after_gap back n) = rw (i, j) at w in
       subst (λ o. IsVisited R f g (take (length (before_gap_in o front)) (entries o)) (drop (length (before_gap_in o back)) (entries o)) (entries o)

@@ -1,6 +1,7 @@
 -- The parts of a node, and what is left of them once a value is written.
 use Rattle.std.proofs.Common.{◌≡◌, ℕ, zero, suc, ◌+◌, ◌<◌, ◌≤◌, List, [], ◌∷◌, ◌++◌, length, map, take, drop, get_or, refl, sym, ap, subst, ◌∙◌}
 use Rattle.std.proofs.Common.{append_assoc, arith, ◌⊎◌, inl, inr}
+use Rattle.std.proofs.lemmas.Bool.{cases_lt}
 use Rattle.std.proofs.lemmas.List.{append_cancel_right, length-append, get_or_default}
 use Rattle.fc_tree_node.specs.Weave.{weave}
 use Rattle.fc_tree_node.specs.declared.node.Node.{Node}
@@ -9,15 +10,6 @@ use Rattle.fc_tree_node.specs.Place.{before_child, after_child, before_own, afte
 use Rattle.fc_tree_search.specs.Written.{with_value}
 use Rattle.fc_tree_node.proofs.Gaps.{drop_item, item_there, leaf_gap, inner_gap, own_pair, before_child_pair, after_child_pair}
 use Rattle.fc_tree_search.proofs.WrittenPairs.{take_value, drop_value, value_at, value_own, value_children}
-
-order : (i j : ℕ) → (i ≤ j) ⊎ (j < i)
-order zero j = inl (omega arith)
-order (suc i) zero = inr (omega arith)
-order (suc i) (suc j) = one (order i j)
-  where
-    one : (i ≤ j) ⊎ (j < i) → (suc i ≤ suc j) ⊎ (suc j < suc i)
-    one (inl h) = inl (omega arith)
-    one (inr h) = inr (omega arith)
 
 module _ {X : Type 0} where
   drop_more : (i : ℕ) (xs : List X) → drop (suc i) xs ≡ drop 1 (drop i xs)
@@ -64,7 +56,7 @@ module _ {K V Z : Type 0} where
 
   before_less : (h : ℕ) (n : Node K V Z) (j i : ℕ) → IsLevelled h n → j < i → i ≤ length (own_pairs n) → length (before_own n j) < length (before_child n i)
   before_less h n j zero l lt le = absurd (omega arith)
-  before_less h n j (suc i) l lt le = go (order i j) (λ q. before_less h n j i l q (omega arith))
+  before_less h n j (suc i) l lt le = go (cases_lt j i) (λ q. before_less h n j i l q (omega arith))
     where
       grows : length (before_own n i) < length (before_child n (suc i))
       grows =
@@ -74,9 +66,9 @@ module _ {K V Z : Type 0} where
           let g : length (get_or (own_pairs n) i p ∷ []) ≡ 1 = refl in
           omega arith
 
-      go : (i ≤ j) ⊎ (j < i) → (j < i → length (before_own n j) < length (before_child n i)) → length (before_own n j) < length (before_child n (suc i))
-      go (inl q) less = let e : j ≡ i = omega arith in subst (λ k. length (before_own n k) < length (before_child n (suc i))) (sym e) grows
-      go (inr q) less =
+      go : (j < i) ⊎ (i ≤ j) → (j < i → length (before_own n j) < length (before_child n i)) → length (before_own n j) < length (before_child n (suc i))
+      go (inr q) less = let e : j ≡ i = omega arith in subst (λ k. length (before_own n k) < length (before_child n (suc i))) (sym e) grows
+      go (inl q) less =
           let r = less q in
           let s = before_short h n i l (omega arith) in
           let t = grows in
@@ -85,11 +77,11 @@ module _ {K V Z : Type 0} where
   -- a gap before another is not after it
   pub in_order : (h : ℕ) (n : Node K V Z) (i j : ℕ) → IsLevelled h n → i ≤ length (own_pairs n)
       → length (before_child n i) + length (after_child n j) ≤ length (pairs_of n) → i ≤ j
-  in_order h n i j l le o = go (order i j)
+  in_order h n i j l le o = go (cases_lt j i)
     where
-      go : (i ≤ j) ⊎ (j < i) → i ≤ j
-      go (inl q) = q
-      go (inr lt) =
+      go : (j < i) ⊎ (i ≤ j) → i ≤ j
+      go (inr q) = q
+      go (inl lt) =
           let p = (item_there (own_pairs n) j (omega arith)).0 in
           let a = ap length (own_pair h n j p l (omega arith)) in
           let b = ap length (after_child_pair n j p (omega arith)) in

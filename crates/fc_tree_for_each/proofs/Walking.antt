@@ -215,6 +215,7 @@ module _ {F K V Z : Type 0} (R : F → K × V → F → V → Type 0) where
 
   -- the walk is over once the last child is back, as c'
   pub record IsOver (old new : Node K V Z) (first g : F) (from to : List ℕ) : Type 0 where
+    pub size : length (own_pairs new) ≡ length (own_pairs old)
     pub levels : (h : ℕ) → IsLevelled h old → IsLevelled h new
     pub shape : (path : List ℕ) → IsSameAlong path old new
     pub visited : IsVisited R first g (before_gap from old) (after_gap to old) (pairs_of old) (pairs_of new)
@@ -227,8 +228,10 @@ module _ {F K V Z : Type 0} (R : F → K × V → F → V → Type 0) where
       {start = start} {end = end} s at p v size levels shape =
       let x = lent s at p in
       let b = below_back x size levels in
-      let kept = replaced_levels s.h (replaced now end c') (at.kept.levels (suc s.h) s.levels) b in
+      let r = replaced now end c' in
+      let kept = replaced_levels s.h r (at.kept.levels (suc s.h) s.levels) b in
       record {
+        size = r.size ∙ at.kept.same;
         levels = λ h l. subst (λ k. IsLevelled k (with_child now end c')) (one_height (suc s.h) h old s.levels l) kept;
         shape = child_shape R s.h old now c c' end rest back f g s.levels at.kept s.steps.last.le x.is v shape;
         visited = at_end s.h old now c c' first f g from to start end end front rest back s.levels s.steps at refl x.is v b;

@@ -26,7 +26,7 @@ module _ {K V Z : Type 0} where
       (λ f. let w = cascade_whole p (child_at n i) f in omega arith)
       (λ f. let w = cascade_part p (child_at n i) f in omega arith))
 
-  whole_full : (p : List ℕ) (n : Node K V Z) → length p ≤ cascade p n → all_full p n ≡ true
+  pub whole_full : (p : List ℕ) (n : Node K V Z) → length p ≤ cascade p n → all_full p n ≡ true
   whole_full p n h = by_fullness p n (all_full p n ≡ true) (λ f. f) (λ f. absurd (let w = cascade_part p n f in omega arith))
 
   part_full : (p : List ℕ) (n : Node K V Z) → cascade p n < length p → all_full p n ≡ false

@@ -1,17 +1,14 @@
 //! Insertion at a path, with the nodes that were made ahead for it.
-ghost use Rattle.std.specs.Prelude.{◌≡◌, ℕ, ◌+◌, ◌-◌, ◌*◌, ◌^◌, ◌<◌, ◌≤◌, [], ◌∷◌, ◌++◌, length, insert, MatchOption, IfSome, IfOk, IfErr, OnOk, OnErr, IsTrue, IsFalse, Some};
+ghost use Rattle.std.specs.Prelude.{◌≡◌, ◌+◌, ◌-◌, ◌*◌, ◌<◌, ◌≤◌, [], ◌∷◌, ◌++◌, length, insert, MatchOption, IfSome, IfOk, IfErr, IsTrue, IsFalse, Some};
 ghost use Rattle.fc_base.specs.Sizes.{capacity, most_levels, level_moves, most_split_moves};
 ghost use Rattle.fc_tree_node.specs.Node.{own_pairs, children_of, pairs_of, IsLeaf, IsInner, IsLevelled, IsSoundRoot, IsBlankLeaf, IsBlankInner};
-ghost use Rattle.fc_tree_node.specs.Depth.{HasFewMoves};
 ghost use Rattle.fc_tree_node.specs.Path.{IsPath, before_gap, after_gap};
-ghost use Rattle.fc_tree_node.specs.Tree.{IsSoundMap};
-ghost use Rattle.fc_tree_insertion.specs.Cascade.{leaf_at, all_full, cascade, nodes_needed, insertion_moves, IsSpareLeaf};
+ghost use Rattle.fc_tree_insertion.specs.Cascade.{all_full, cascade, nodes_needed, insertion_moves, IsSpareLeaf};
 ghost use Rattle.fc_tree_insertion.specs.Insertion.{spread, own_pairs_after, children_after, IsHalved};
 ghost use Rattle.fc_tree_node.specs.Split.{left_length, split_moves};
 ghost use Rattle.fc_tree_insertion.specs.NewPair.{steps_after, path_after, IsPutAt, IsLedToNewPair};
 
 use crate::new_nodes::NewNodes;
-use crate::ready::{insert_ready, try_nodes_at};
 use crate::spares::Spares;
 use crate::steps_to_new_pair::lead_to_new_pair;
 use fc_base::{Count, Handle, TryReserveError};
@@ -19,48 +16,6 @@ use fc_tree_node::lend::child_in;
 use fc_tree_node::node::{CAPACITY, Node};
 use fc_tree_node::path::Path;
 use std::mem;
-
-/// Puts a pair into the gap of a sound tree that the path leads to, with every node that it takes made before. The path then leads
-/// to the pair.
-///
-/// # Errors
-/// `AllocError` if one of these nodes is refused, which takes a full leaf. The tree is then as before, and the pair comes back.
-#[inline(always)]
-pub fn try_insert<K: Drop, V: Drop, A: Handle>(
-    alloc: A,
-    root: &mut Node<K, V, A>,
-    path: &mut Path,
-    pair: (K, V),
-    count: &mut Count,
-) -> Result<(), (K, V, TryReserveError)>
-    requires sound { IsSoundMap (Some root.old) }
-    requires path { IsPath path.old root.old }
-    requires levels { (h : ℕ) → IsLevelled h root.old → length path.old ≡ h + 1 }
-    requires fits { length (pairs_of root.old) < usize.MAX }
-
-    // The pairs before the gap, the new pair and the pairs after the gap.
-    ensures pairs { OnOk result (pairs_of root.new ≡ before_gap path.old root.old ++ pair ∷ after_gap path.old root.old) }
-    ensures place { OnOk result (IsPutAt path.new root.new pair (before_gap path.old root.old) (after_gap path.old root.old)) }
-    ensures length { OnOk result (length (pairs_of root.new) ≡ length (pairs_of root.old) + 1) }
-    ensures sound { IsSoundMap (Some root.new) }
-    ensures unchanged { OnErr result (root.new ≡ root.old) }
-    ensures back { IfErr result (λ e. (e.0 ≡ pair.0) × (e.1 ≡ pair.1)) }
-    ensures error { IfErr result (λ e. e.2 ≡ TryReserveError.AllocError) }
-    ensures leaf { OnErr result (capacity ≤ length (pairs_of root.old)) }
-    ensures full { OnErr result (length (own_pairs (leaf_at path.old root.old)) ≡ capacity) }
-    ensures comparisons { count.new.comparisons ≡ count.old.comparisons }
-    ensures no_move { OnErr result (count.new.moves ≡ count.old.moves) }
-    ensures moves { OnOk result (HasFewMoves (length (pairs_of root.new)) count.old count.new) }
-    ensures moved { OnOk result (count.old.moves < count.new.moves) }
-{
-    match try_nodes_at(alloc, root, path) {
-        Ok(new_nodes) => {
-            insert_ready(root, path, pair, new_nodes, count);
-            Ok(())
-        }
-        Err(e) => Err((pair.0, pair.1, e)),
-    }
-}
 
 /// Puts `pair` into the gap that the path leads to. Each node that this takes is in `new_nodes`, so nothing can be refused once
 /// the first pair moves. The path then leads to the pair in the tree as it is now.

@@ -69,20 +69,15 @@ pub fn try_new_nodes<K: Drop, V: Drop, A: Handle>(
     ensures full { OnErr result (length (own_pairs (leaf_at path.now root.now)) ≡ capacity) }
     ensures error { IfErr result (λ e. e ≡ TryReserveError.AllocError) }
 {
-    let split = count_full(root, path);
-    if split == 0 {
+    let needed = count_needed(root, path);
+    if needed == 0 {
         return Ok(NewNodes {
             leaf: None,
             inner: Spares::new(),
         });
     }
     let leaf = Node::try_leaf(alloc)?;
-    let above = if split == path.len() {
-        split
-    } else {
-        split - 1
-    };
-    let inner = try_spares(alloc, above)?;
+    let inner = try_spares(alloc, needed - 1)?;
     Ok(NewNodes {
         leaf: Some(leaf),
         inner,
@@ -110,8 +105,27 @@ pub fn try_spares<K: Drop, V: Drop, A: Handle>(
     Ok(spares)
 }
 
+// How many nodes an insertion at the path needs: none where the leaf has room.
+#[inline(always)]
+pub(crate) fn count_needed<K, V, A: Handle>(root: &Node<K, V, A>, path: &[u8]) -> usize
+    requires some { 0 < length path.now }
+    requires short { length path.now ≤ most_levels }
+    requires path { IsPath path.now root.now }
+    requires levels { IsLevelled (length path.now - 1) root.now }
+    ensures value { result ≡ nodes_needed path.now root.now }
+    ensures few { result ≤ length path.now + 1 }
+    ensures full { 0 < result → length (own_pairs (leaf_at path.now root.now)) ≡ capacity }
+{
+    let split = count_full(root, path);
+    if split == path.len() {
+        split + 1
+    } else {
+        split
+    }
+}
+
 // How many nodes of the path are full, one after another from the leaf upwards.
-pub(crate) fn count_full<K, V, A: Handle>(node: &Node<K, V, A>, path: &[u8]) -> usize
+fn count_full<K, V, A: Handle>(node: &Node<K, V, A>, path: &[u8]) -> usize
     requires some { 0 < length path.now }
     requires path { IsPath path.now node.now }
     requires levels { IsLevelled (length path.now - 1) node.now }

@@ -5,7 +5,7 @@ ghost use Rattle.fc_tree_node.specs.Node.{IsLevelled, IsBlankLeaf, IsBlankInner}
 ghost use Rattle.fc_tree_node.specs.Path.{IsPath};
 ghost use Rattle.fc_tree_insertion.specs.Cascade.{nodes_needed};
 
-use crate::new_nodes::{NewNodes, count_full};
+use crate::new_nodes::{NewNodes, count_needed};
 use crate::spares::Spares;
 use fc_base::{Handle, TryReserveError};
 use fc_tree_node::node::Node;
@@ -129,20 +129,15 @@ impl<K: Drop, V: Drop, A: Handle> NodePool<K, V, A> {
         ensures taken { result ≡ nodes_needed path.now root.now }
         ensures len { self.new + nodes_needed path.now root.now ≡ self.old }
     {
-        let split = count_full(root, path);
-        if split == 0 {
+        let needed = count_needed(root, path);
+        if needed == 0 {
             return NewNodes {
                 leaf: None,
                 inner: Spares::new(),
             };
         }
-        let above = if split == path.len() {
-            split
-        } else {
-            split - 1
-        };
         let leaf = self.take_leaf();
-        let inner = self.take_spares(above);
+        let inner = self.take_spares(needed - 1);
         NewNodes {
             leaf: Some(leaf),
             inner,

@@ -1,5 +1,5 @@
 //! An insertion in two halves: its nodes are made, and then nothing refuses it.
-ghost use Rattle.std.specs.Prelude.{◌≡◌, ℕ, ◌+◌, ◌<◌, ◌≤◌, [], ◌∷◌, ◌++◌, length, IfOk, IfErr, OnErr, Some};
+ghost use Rattle.std.specs.Prelude.{◌≡◌, ℕ, ◌+◌, ◌<◌, ◌≤◌, [], ◌∷◌, ◌++◌, length, IfOk, IfErr, OnOk, OnErr, Some};
 ghost use Rattle.fc_base.specs.Sizes.{capacity};
 ghost use Rattle.fc_tree_node.specs.Node.{own_pairs, pairs_of, IsLevelled, IsSoundRoot, IsBlankLeaf};
 ghost use Rattle.fc_tree_node.specs.Depth.{HasFewMoves};
@@ -61,6 +61,48 @@ pub fn insert_ready<K: Drop, V: Drop, A: Handle>(
     ensures moved { count.old.moves < count.new.moves }
 {
     insert(root, path, pair, new_nodes, count);
+}
+
+/// Puts a pair into the gap of a sound tree that the path leads to, with every node that it takes made before. The path then leads
+/// to the pair.
+///
+/// # Errors
+/// `AllocError` if one of these nodes is refused, which takes a full leaf. The tree is then as before, and the pair comes back.
+#[inline(always)]
+pub fn try_insert<K: Drop, V: Drop, A: Handle>(
+    alloc: A,
+    root: &mut Node<K, V, A>,
+    path: &mut Path,
+    pair: (K, V),
+    count: &mut Count,
+) -> Result<(), (K, V, TryReserveError)>
+    requires sound { IsSoundMap (Some root.old) }
+    requires path { IsPath path.old root.old }
+    requires levels { (h : ℕ) → IsLevelled h root.old → length path.old ≡ h + 1 }
+    requires fits { length (pairs_of root.old) < usize.MAX }
+
+    // The pairs before the gap, the new pair and the pairs after the gap.
+    ensures pairs { OnOk result (pairs_of root.new ≡ before_gap path.old root.old ++ pair ∷ after_gap path.old root.old) }
+    ensures place { OnOk result (IsPutAt path.new root.new pair (before_gap path.old root.old) (after_gap path.old root.old)) }
+    ensures length { OnOk result (length (pairs_of root.new) ≡ length (pairs_of root.old) + 1) }
+    ensures sound { IsSoundMap (Some root.new) }
+    ensures unchanged { OnErr result (root.new ≡ root.old) }
+    ensures back { IfErr result (λ e. (e.0 ≡ pair.0) × (e.1 ≡ pair.1)) }
+    ensures error { IfErr result (λ e. e.2 ≡ TryReserveError.AllocError) }
+    ensures leaf { OnErr result (capacity ≤ length (pairs_of root.old)) }
+    ensures full { OnErr result (length (own_pairs (leaf_at path.old root.old)) ≡ capacity) }
+    ensures comparisons { count.new.comparisons ≡ count.old.comparisons }
+    ensures no_move { OnErr result (count.new.moves ≡ count.old.moves) }
+    ensures moves { OnOk result (HasFewMoves (length (pairs_of root.new)) count.old count.new) }
+    ensures moved { OnOk result (count.old.moves < count.new.moves) }
+{
+    match try_nodes_at(alloc, root, path) {
+        Ok(new_nodes) => {
+            insert_ready(root, path, pair, new_nodes, count);
+            Ok(())
+        }
+        Err(e) => Err((pair.0, pair.1, e)),
+    }
 }
 
 /// Makes the one node that the first pair of a tree takes: a leaf.

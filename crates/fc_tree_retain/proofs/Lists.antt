@@ -1,5 +1,6 @@
 -- A list of two parts.
 use Rattle.std.proofs.Common.{◌≡◌, ℕ, ◌≤◌, List, [], ◌∷◌, ◌++◌, length, get_or, take, drop, refl, sym, ap, subst, ◌∙◌, arith}
+use Rattle.std.proofs.Math.Seq.{get_or-append_seam, take-append_seam, drop-append_seam}
 use Rattle.std.specs.Prelude.{slice_set}
 use Rattle.std.specs.List.{remove}
 
@@ -10,25 +11,13 @@ module _ {X : Type 0} where
 
   -- the same, with the number of items before it
   pub at_place : (xs ys : List X) (x d : X) (i : ℕ) → length xs ≡ i → get_or (xs ++ x ∷ ys) i d ≡ x
-  at_place xs ys x d i e = subst (λ j. get_or (xs ++ x ∷ ys) j d ≡ x) e (go xs)
-    where
-      go : (xs : List X) → get_or (xs ++ x ∷ ys) (length xs) d ≡ x
-      go [] = refl
-      go (z ∷ xs) = go xs
+  at_place xs ys x d i e = subst (λ j. get_or (xs ++ x ∷ ys) j d ≡ x) e (get_or-append_seam xs x ys d)
 
   pub take_place : (xs ys : List X) (i : ℕ) → length xs ≡ i → take i (xs ++ ys) ≡ xs
-  take_place xs ys i e = subst (λ j. take j (xs ++ ys) ≡ xs) e (go xs)
-    where
-      go : (xs : List X) → take (length xs) (xs ++ ys) ≡ xs
-      go [] = refl
-      go (z ∷ xs) = ap (λ zs. z ∷ zs) (go xs)
+  take_place xs ys i e = subst (λ j. take j (xs ++ ys) ≡ xs) e (take-append_seam xs ys)
 
   pub drop_place : (xs ys : List X) (i : ℕ) → length xs ≡ i → drop i (xs ++ ys) ≡ ys
-  drop_place xs ys i e = subst (λ j. drop j (xs ++ ys) ≡ ys) e (go xs)
-    where
-      go : (xs : List X) → drop (length xs) (xs ++ ys) ≡ ys
-      go [] = refl
-      go (z ∷ xs) = go xs
+  drop_place xs ys i e = subst (λ j. drop j (xs ++ ys) ≡ ys) e (drop-append_seam xs ys)
 
   pub set_place : (xs ys : List X) (x y : X) (i : ℕ) → length xs ≡ i → slice_set (xs ++ x ∷ ys) i y ≡ xs ++ y ∷ ys
   set_place xs ys x y i e = subst (λ j. slice_set (xs ++ x ∷ ys) j y ≡ xs ++ y ∷ ys) e (go xs)

@@ -4,7 +4,7 @@ use Rattle.std.proofs.Common.{append_assoc, append-nil, Option, Some, None, Matc
 use Rattle.std.specs.Prelude.{Bool, true, false, slice_set, ⊤}
 use Rattle.std.specs.List.{AllByRecursion, remove}
 use Rattle.std.specs.Option.{option_to_list}
-use Rattle.std.proofs.lemmas.List.{length-map, map-append, length-append}
+use Rattle.std.proofs.lemmas.List.{length-map, map-append, length-append, get_or_default, nil_from_length}
 use Rattle.fc_tree_node.specs.Weave.{weave, before_list}
 use Rattle.fc_tree_node.specs.declared.node.Node.{Node, out-Node}
 use Rattle.fc_tree_node.specs.Node.{own_pairs, children_of, child_at, pairs_of, IsInner}
@@ -36,21 +36,12 @@ module _ {K V : Type 0} where
       go [] = refl
       go (z ∷ xs) = ap (λ zs. z ∷ zs) (go xs)
 
-  empty_list : (xs : List (K × V)) → length xs ≡ 0 → xs ≡ []
-  empty_list [] e = refl
-  empty_list (x ∷ xs) e = absurd (omega arith)
-
 -- what holds where there is nothing
 pub if_none : {X P Q : Type 0} (r : Option X) → (P → Q) → MatchOption r P (λ _. ⊤) → MatchOption r Q (λ _. ⊤)
 if_none None f p = f p
 if_none (Some x) f p = p
 
 module _ {K V Z : Type 0} where
-  get_any : (xs : List (Node K V Z)) (i : ℕ) (d e : Node K V Z) → i < length xs → get_or xs i d ≡ get_or xs i e
-  get_any [] i d e h = absurd (omega arith)
-  get_any (x ∷ xs) zero d e h = refl
-  get_any (x ∷ xs) (suc i) d e h = get_any xs i d e (omega arith)
-
   -- a node with another value
   pub record IsWritten (old mid : Node K V Z) (i : ℕ) (w : V) : Type 0 where
     pub own : own_pairs mid ≡ set_value (own_pairs old) i w
@@ -71,7 +62,7 @@ module _ {K V Z : Type 0} where
         children = cs;
         inner = λ k. let k' : length (children_of old) ≡ length (own_pairs old) + 1 = k in omega arith;
         child = λ k le. let k' : length (children_of old) ≡ length (own_pairs old) + 1 = k in ap (λ xs. get_or xs i mid) cs
-            ∙ get_any (children_of old) i mid old (omega arith);
+            ∙ get_or_default (children_of old) i mid old (omega arith);
       }
 
   pub written_leaf : (old mid : Node K V Z) (i : ℕ) (w : V) → IsLoose 0 old → mid ≡ with_value old i w → IsLoose 0 mid
@@ -291,7 +282,7 @@ module _ {S K V : Type 0} (R : S → K × V → S → V → Bool → Type 0) whe
   -- all of them were
   pub leaf_end : (s t : S) (old now : List (K × V)) (at : ℕ) → IsLeafFiltered [] 0 s t old now at 0 → RetainsInTurn R s old t now
   leaf_end s t old now at l =
-      let z = empty_list l.rest l.left_is in
+      let z = nil_from_length l.rest l.left_is in
       let o : old ≡ l.seen = l.old_is ∙ ap (λ r. l.seen ++ r) z ∙ append-nil l.seen in
       let n : now ≡ l.stay = l.now_is ∙ ap (λ r. l.stay ++ r) z ∙ append-nil l.stay in
       subst (λ x. RetainsInTurn R s x t now) (sym o) (subst (λ x. RetainsInTurn R s l.seen t x) (sym n) l.filters)

@@ -1,15 +1,21 @@
 -- Nodes of which one child, or two beside each other, may have too few pairs.
-use Rattle.std.specs.Prelude.{◌≡◌, ℕ, zero, suc, ◌+◌, ◌<◌, ◌≤◌, ◌⊎◌, ◌∷◌, ◌++◌, length, take, drop}
+use Rattle.std.specs.Prelude.{◌≡◌, ℕ, zero, suc, ◌+◌, ◌<◌, ◌≤◌, ◌⊎◌, Bool, true, false, ◌∷◌, ◌++◌, length, take, drop}
 use Rattle.std.specs.List.{AllByRecursion}
 use Rattle.fc_base.specs.Sizes.{capacity, min_len}
 use Rattle.fc_tree_node.specs.declared.node.Node.{Node}
 use Rattle.fc_tree_node.specs.Node.{own_pairs, children_of, child_at, IsLeaf, IsInner, IsSound}
+use Rattle.fc_tree_retain.specs.Loose.{IsLoose}
 
 module _ {K V Z : Type 0} where
   -- The node may hold few pairs, none too. Its children are sound; where it holds none, its only child may again be such a node.
   abbrev pub IsThin : ℕ → Node K V Z → Type 0
   IsThin zero n = (length (own_pairs n) ≤ capacity) × IsLeaf n
   IsThin (suc h) n = (length (own_pairs n) ≤ capacity) × IsInner n × (AllByRecursion (IsSound h) (children_of n) ⊎ ((length (own_pairs n) ≡ 0) × IsThin h (child_at n 0)))
+
+  -- Such a node, or where the flag is not set one of which each node may hold few pairs.
+  abbrev pub IsThinOrLoose : Bool → ℕ → Node K V Z → Type 0
+  IsThinOrLoose true = IsThin
+  IsThinOrLoose false = IsLoose
 
   -- The two children beside the pair at the place may hold too few pairs, and those before them are sound.
   pub record IsSeam (h : ℕ) (n : Node K V Z) (i : ℕ) : Type 0 where

@@ -1,10 +1,12 @@
 //! The pairs that are not to stay taken out of a tree, whose nodes may then hold any number of pairs.
 ghost use Rattle.std.specs.Prelude.{◌≡◌, ℕ, ◌+◌, ◌<◌, ◌≤◌, [], ◌∷◌, ◌++◌, length, remove, slice_index_or, MatchOption, ⊤};
 ghost use Rattle.std.specs.Option.{option_to_list};
+ghost use Rattle.fc_base.specs.Sizes.{capacity};
 ghost use Rattle.fc_tree_node.specs.Node.{own_pairs, children_of, child_at, pairs_of, IsLeaf, IsInner};
 ghost use Rattle.fc_tree_node.specs.Place.{before_child, after_child};
 ghost use Rattle.fc_tree_search.specs.Written.{with_value};
 ghost use Rattle.fc_tree_retain.specs.Loose.{IsLoose};
+ghost use Rattle.fc_tree_retain.specs.Rebalancing.{IsThin, IsThinOrLoose};
 ghost use Rattle.fc_tree_retain.specs.Retained.{RetainsInTurn};
 ghost use Rattle.fc_tree_retain.specs.Filtered.{FiltersPair, IsOwnPassed, IsPassed, IsAsked};
 
@@ -12,6 +14,7 @@ use crate::filter::Filter;
 use fc_base::{Count, Handle};
 use fc_tree_node::lend::child_in;
 use fc_tree_node::node::Node;
+use fc_tree_removal::first_last::remove_last;
 
 // Asks of each pair below the node, in order, and takes those out that are not to stay. No node is merged: one may be left with few
 // pairs, none too.
@@ -32,7 +35,7 @@ pub(crate) fn filter_subtree<K: Drop, V: Drop, S: Filter<K, V>, A: Handle>(
     let mut at = 0;
     for _ in 0..node.len() {
         filter_subtree(child_in(&mut node.children, at), filter);
-        at = filter_between(node, at, filter);
+        at = filter_between(node, at, false, filter);
     }
     filter_subtree(child_in(&mut node.children, at), filter);
 }
@@ -75,7 +78,7 @@ pub(crate) fn filter_own<K: Drop, V: Drop, S: Filter<K, V>, A: Handle>(
 }
 
 // Whether the node's own pair at `index` is to stay.
-pub(crate) fn stays<K, V, S: Filter<K, V>, A: Handle>(
+fn stays<K, V, S: Filter<K, V>, A: Handle>(
     node: &mut Node<K, V, A>,
     index: usize,
     filter: &mut S,
@@ -90,23 +93,25 @@ pub(crate) fn stays<K, V, S: Filter<K, V>, A: Handle>(
 }
 
 // Asks of the pair behind a child that is done, and answers which child is next. Where the pair is not to stay, the last one below the
-// child takes its place; a child without pairs goes with it.
-fn filter_between<K: Drop, V: Drop, S: Filter<K, V>, A: Handle>(
+// child takes its place, and the child is rebalanced where the flag says so; a child without pairs goes with it.
+pub(crate) fn filter_between<K: Drop, V: Drop, S: Filter<K, V>, A: Handle>(
     node: &mut Node<K, V, A>,
     at: usize,
+    rebalances: bool,
     filter: &mut S,
 ) -> usize
-    requires loose { (h : ℕ) × IsLoose h node.old }
+    requires child { (h : ℕ) × IsThinOrLoose rebalances h (child_at node.old at) }
+    requires fits { length (own_pairs node.old) ≤ capacity }
     requires inside { at < length (own_pairs node.old) }
     requires inner { IsInner node.old }
     requires callable { S.callable filter.old }
     ensures callable { S.callable filter.new }
-    ensures passed { IsPassed IsLoose (FiltersPair S.asked S.given) filter.old filter.new at result node.old node.new }
+    ensures passed { IsPassed (IsThinOrLoose rebalances) (FiltersPair S.asked S.given) filter.old filter.new at result node.old node.new }
 {
     if stays(node, at, filter) {
         return at + 1;
     }
-    match take_last(child_in(&mut node.children, at)) {
+    match take_last(child_in(&mut node.children, at), rebalances) {
         None => {
             filter.take(remove_behind(node, at));
             at
@@ -118,11 +123,25 @@ fn filter_between<K: Drop, V: Drop, S: Filter<K, V>, A: Handle>(
     }
 }
 
-// Takes the child at `index` out, and the pair behind it.
-pub(crate) fn remove_behind<K: Drop, V: Drop, A: Handle>(
+// Takes the last pair below a node out, if there is one, and rebalances what is below the node where the flag says so.
+fn take_last<K: Drop, V: Drop, A: Handle>(
     node: &mut Node<K, V, A>,
-    index: usize,
-) -> (K, V)
+    rebalances: bool,
+) -> Option<(K, V)>
+    requires levels { (h : ℕ) × IsThinOrLoose rebalances h node.old }
+    ensures levels { (h : ℕ) → IsThinOrLoose rebalances h node.old → IsThinOrLoose rebalances h node.new }
+    ensures pairs { pairs_of node.old ≡ pairs_of node.new ++ option_to_list result }
+    ensures none { MatchOption result (pairs_of node.new ≡ []) (λ _. ⊤) }
+{
+    if rebalances {
+        take_last_of_thin(node)
+    } else {
+        take_last_of_loose(node)
+    }
+}
+
+// Takes the child at `index` out, and the pair behind it.
+fn remove_behind<K: Drop, V: Drop, A: Handle>(node: &mut Node<K, V, A>, index: usize) -> (K, V)
     requires inside { index < length (own_pairs node.old) }
     requires inner { IsInner node.old }
     ensures value { result ≡ slice_index_or (own_pairs node.old) index result }
@@ -137,8 +156,24 @@ pub(crate) fn remove_behind<K: Drop, V: Drop, A: Handle>(
     pairs.remove(index, &mut Count::new())
 }
 
+// Takes the last pair below a node that may hold none itself out, if there is one, and rebalances what is below the node.
+fn take_last_of_thin<K: Drop, V: Drop, A: Handle>(node: &mut Node<K, V, A>) -> Option<(K, V)>
+    requires thin { (h : ℕ) × IsThin h node.old }
+    ensures thin { (h : ℕ) → IsThin h node.old → IsThin h node.new }
+    ensures pairs { pairs_of node.old ≡ pairs_of node.new ++ option_to_list result }
+    ensures none { MatchOption result (pairs_of node.new ≡ []) (λ _. ⊤) }
+{
+    if node.len() > 0 {
+        return Some(remove_last(node, &mut Count::new()));
+    }
+    if node.is_leaf() {
+        return None;
+    }
+    take_last_of_thin(child_in(&mut node.children, 0))
+}
+
 // Takes the last pair below the node out, if there is one.
-fn take_last<K: Drop, V: Drop, A: Handle>(node: &mut Node<K, V, A>) -> Option<(K, V)>
+fn take_last_of_loose<K: Drop, V: Drop, A: Handle>(node: &mut Node<K, V, A>) -> Option<(K, V)>
     requires loose { (h : ℕ) × IsLoose h node.old }
     ensures loose { (h : ℕ) → IsLoose h node.old → IsLoose h node.new }
     ensures pairs { pairs_of node.old ≡ pairs_of node.new ++ option_to_list result }
@@ -151,7 +186,7 @@ fn take_last<K: Drop, V: Drop, A: Handle>(node: &mut Node<K, V, A>) -> Option<(K
         }
         return Some(node.remove_leaf(end - 1, &mut Count::new()));
     }
-    if let Some(pair) = take_last(child_in(&mut node.children, end)) {
+    if let Some(pair) = take_last_of_loose(child_in(&mut node.children, end)) {
         return Some(pair);
     }
     if end == 0 {

@@ -1,20 +1,17 @@
 //! The pairs between two gaps that are not to stay taken out of a tree, of which only the nodes between these are seen, and rebalanced.
-ghost use Rattle.std.specs.Prelude.{◌≡◌, ℕ, ◌+◌, ◌<◌, ◌≤◌, [], ◌++◌, length, drop, slice_index_or, MatchOption, ⊤};
-ghost use Rattle.std.specs.Option.{option_to_list};
-ghost use Rattle.fc_base.specs.Sizes.{capacity};
-ghost use Rattle.fc_tree_node.specs.Node.{own_pairs, child_at, pairs_of, IsInner, IsLevelled};
+ghost use Rattle.std.specs.Prelude.{◌≡◌, ℕ, ◌≤◌, length, drop, slice_index_or};
+ghost use Rattle.fc_tree_node.specs.Node.{own_pairs, IsLevelled};
 ghost use Rattle.fc_tree_retain.specs.Loose.{IsLoose};
 ghost use Rattle.fc_tree_retain.specs.Rebalancing.{IsThin};
-ghost use Rattle.fc_tree_retain.specs.Filtered.{FiltersPair, IsPassed};
+ghost use Rattle.fc_tree_retain.specs.Filtered.{FiltersPair};
 ghost use Rattle.fc_tree_retain.specs.Stretch.{AreInOrder, IsEnd, IsPartFiltered, IsStretchFiltered};
 
 use crate::filter::Filter;
-use crate::filtering::{filter_own, remove_behind, stays};
+use crate::filtering::{filter_between, filter_own};
 use crate::rebalancing::rebalance_between;
-use fc_base::{Count, Handle};
+use fc_base::Handle;
 use fc_tree_node::lend::child_in;
 use fc_tree_node::node::Node;
-use fc_tree_removal::first_last::remove_last;
 
 // Asks of each pair below the node between two gaps, in order, takes those out that are not to stay, and rebalances what is below the node.
 // A path of no step stands for the end of the node on its side.
@@ -41,7 +38,7 @@ pub(crate) fn filter_within<K: Drop, V: Drop, S: Filter<K, V>, A: Handle>(
     let mut at = start;
     for _ in start..end {
         filter_within(child_in(&mut node.children, at), ahead, &[], filter);
-        at = filter_after(node, at, filter);
+        at = filter_between(node, at, true, filter);
         ahead = &[];
     }
     filter_within(
@@ -92,50 +89,4 @@ fn filter_part<K: Drop, V: Drop, S: Filter<K, V>, A: Handle>(
     for _ in start..end {
         at = filter_own(node, at, filter);
     }
-}
-
-// Asks of the pair behind a child that is done, and answers which child is next. Where the pair is not to stay, the last one below the
-// child takes its place, and the child is rebalanced; a child without pairs goes with it.
-fn filter_after<K: Drop, V: Drop, S: Filter<K, V>, A: Handle>(
-    node: &mut Node<K, V, A>,
-    at: usize,
-    filter: &mut S,
-) -> usize
-    requires thin { (h : ℕ) × IsThin h (child_at node.old at) }
-    requires fits { length (own_pairs node.old) ≤ capacity }
-    requires inside { at < length (own_pairs node.old) }
-    requires inner { IsInner node.old }
-    requires callable { S.callable filter.old }
-    ensures callable { S.callable filter.new }
-    ensures passed { IsPassed IsThin (FiltersPair S.asked S.given) filter.old filter.new at result node.old node.new }
-{
-    if stays(node, at, filter) {
-        return at + 1;
-    }
-    match take_last_of_thin(child_in(&mut node.children, at)) {
-        None => {
-            filter.take(remove_behind(node, at));
-            at
-        }
-        Some(pair) => {
-            filter.take(node.replace_pair(at, pair, &mut Count::new()));
-            at + 1
-        }
-    }
-}
-
-// Takes the last pair below a node that may hold none itself out, if there is one, and rebalances what is below the node.
-fn take_last_of_thin<K: Drop, V: Drop, A: Handle>(node: &mut Node<K, V, A>) -> Option<(K, V)>
-    requires thin { (h : ℕ) × IsThin h node.old }
-    ensures thin { (h : ℕ) → IsThin h node.old → IsThin h node.new }
-    ensures pairs { pairs_of node.old ≡ pairs_of node.new ++ option_to_list result }
-    ensures none { MatchOption result (pairs_of node.new ≡ []) (λ _. ⊤) }
-{
-    if node.len() > 0 {
-        return Some(remove_last(node, &mut Count::new()));
-    }
-    if node.is_leaf() {
-        return None;
-    }
-    take_last_of_thin(child_in(&mut node.children, 0))
 }

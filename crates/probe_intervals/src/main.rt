@@ -56,6 +56,8 @@ fn answer_of_range<W: Write>(
     match (word, range(rest), number(rest)) {
         ("cut", Some((start, end)), _) => done(map.cut(start..end), out),
         ("split", _, Some(point)) => done(map.split_at(point), out),
+        ("join", _, Some(point)) if map.join_at(point) => writeln!(out, "joined"),
+        ("join", _, Some(_)) => writeln!(out, "apart"),
         ("over", Some((start, end)), _) => list_over(map, start, end, out),
         ("gaps", Some((start, end)), _) => list_gaps(map, start, end, out),
         _ => writeln!(out, "bad line"),

@@ -2,6 +2,8 @@
 #![tactic(auto)]
 
 #[cfg(test)]
+mod joins;
+#[cfg(test)]
 mod numbers;
 #[cfg(test)]
 mod refusals;

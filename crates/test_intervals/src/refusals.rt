@@ -1,5 +1,6 @@
 //! Calls that are refused: the map is as it was, and the value comes back.
 use fc_intervals::IntervalMap;
+use std::alloc::Global;
 use std::test::Fail;
 use test_values::Owned;
 
@@ -43,6 +44,48 @@ fn a_refused_put_leaves_the_map(rt: HostRuntime) -> Result<(), Fail> {
                 && number_at(&map, 30) == 1
         ),
         Err((value, _error)) => assert!(rt; value.number == 2 && is_whole(&map, 1)),
+    }
+    Ok(())
+}
+
+// Puts fourteen stretches of ten points in, each with its number: their leaf has room for one more. False where memory was refused.
+fn fill(map: &mut Boxes, alloc: Global) -> bool {
+    for number in 0..14u64 {
+        let Ok(value) = Owned::try_new(alloc, number) else {
+            return false;
+        };
+        let start = number.wrapping_mul(20);
+        if map.put(start..start.wrapping_add(10), value).is_err() {
+            return false;
+        }
+    }
+    true
+}
+
+// What goes on behind the range fills the leaf, and is taken out again where the node for the range itself is refused.
+#[test]
+fn a_put_refused_at_its_second_stretch_leaves_the_map(rt: HostRuntime) -> Result<(), Fail> {
+    let mut map: Boxes = IntervalMap::new(rt.alloc());
+    if !fill(&mut map, rt.alloc()) {
+        return Ok(());
+    }
+    let Ok(value) = Owned::try_new(rt.alloc(), 50) else {
+        return Ok(());
+    };
+    match map.put(42..45, value) {
+        Ok(()) => assert!(rt;
+            map.len() == 16
+                && number_at(&map, 41) == 2
+                && number_at(&map, 44) == 50
+                && number_at(&map, 45) == 2
+        ),
+        Err((value, _error)) => assert!(rt;
+            value.number == 50
+                && map.len() == 14
+                && number_at(&map, 44) == 2
+                && number_at(&map, 49) == 2
+                && number_at(&map, 50) == 0
+        ),
     }
     Ok(())
 }

@@ -41,6 +41,37 @@ fn a_rescheduled_timer_is_behind_those_of_its_time(rt: HostRuntime) -> Result<()
     Ok(())
 }
 
+// The values of the timers that are drained, as the digits of a number, and the sum of their times.
+fn drained(queue: &mut Numbers, now: u64) -> (u64, u64) {
+    let mut digits = 0u64;
+    let mut times = 0u64;
+    queue.drain_due(&now, |at, value| {
+        digits = digits.wrapping_mul(10).wrapping_add(value);
+        times = times.wrapping_add(at);
+    });
+    (digits, times)
+}
+
+#[test]
+fn all_that_are_due_are_drained_in_order(rt: HostRuntime) -> Result<(), Fail> {
+    let mut queue: Numbers = TimerQueue::new(rt.alloc());
+    insert(&mut queue, 30, 1)?;
+    insert(&mut queue, 10, 2)?;
+    insert(&mut queue, 20, 3)?;
+    insert(&mut queue, 10, 4)?;
+    let (digits, times) = drained(&mut queue, 9);
+    assert!(rt; digits == 0 && times == 0 && queue.len() == 4);
+    let (digits, times) = drained(&mut queue, 20);
+    assert!(rt; digits == 243 && times == 40);
+    assert!(rt; queue.len() == 1 && queue.next_deadline() == Some(&30));
+    insert(&mut queue, 30, 5)?;
+    let (digits, times) = drained(&mut queue, u64::MAX);
+    assert!(rt; digits == 15 && times == 60 && queue.is_empty());
+    let (digits, times) = drained(&mut queue, u64::MAX);
+    assert!(rt; digits == 0 && times == 0);
+    Ok(())
+}
+
 // The second timer has the slot that the first one had.
 #[test]
 fn a_timer_that_is_gone_is_found_no_more(rt: HostRuntime) -> Result<(), Fail> {

@@ -56,7 +56,7 @@ fn a_refused_insertion_leaves_the_queue(rt: HostRuntime) -> Result<(), Fail> {
     Ok(())
 }
 
-// A slot that a timer left is given out again, with no request for memory.
+// A slot that a timer left is given out again, with no request for memory: there are four from the first one on.
 #[test]
 fn a_left_slot_takes_no_memory(rt: HostRuntime) -> Result<(), Fail> {
     let mut queue: TimerQueue<u64, u64> = TimerQueue::new(rt.alloc());

@@ -41,6 +41,16 @@ impl Row {
         found
     }
 
+    // Takes the first timer out, where it is due, and answers its time and its place.
+    fn take_first(&mut self, now: u64) -> Option<(u64, u64)> {
+        let (place, at) = self.first()?;
+        if now < at {
+            return None;
+        }
+        self.places[(place % 16) as usize] = None;
+        Some((at, place))
+    }
+
     fn count(&self) -> usize {
         let mut count = 0usize;
         for place in &self.places {
@@ -70,17 +80,18 @@ pub fn next(state: u64) -> u64 {
 
 /// Whether the queue gives the timer that the row has first, where it is due, and both agree then.
 pub fn takes_first(queue: &mut Numbers, row: &mut Row, now: u64) -> bool {
-    let taken = queue.pop_due(&now);
-    match row.first() {
-        Some((place, at)) => {
-            if now < at {
-                return taken == None;
-            }
-            row.places[(place % 16) as usize] = None;
-            taken == Some((at, place)) && row.agrees(queue)
+    queue.pop_due(&now) == row.take_first(now) && row.agrees(queue)
+}
+
+/// Whether the queue gives all timers that are due as the row has them, one after another, and both agree then.
+pub fn drains(queue: &mut Numbers, row: &mut Row, now: u64) -> bool {
+    let mut is_right = true;
+    queue.drain_due(&now, |at, value| {
+        if row.take_first(now) != Some((at, value)) {
+            is_right = false;
         }
-        None => taken == None,
-    }
+    });
+    is_right && row.take_first(now).is_none() && row.agrees(queue)
 }
 
 // Puts a timer at an empty place.
@@ -117,8 +128,12 @@ fn alter(queue: &mut Numbers, row: &mut Row, i: usize, place: Place, drawn: u64)
 pub fn change(queue: &mut Numbers, row: &mut Row, drawn: u64) -> Result<bool, TryReserveError> {
     row.steps = row.steps.wrapping_add(1);
     let drawn = drawn >> 8;
-    if drawn >> 50 & 7 == 0 {
+    let kind = drawn >> 50 & 7;
+    if kind == 0 {
         return Ok(takes_first(queue, row, drawn >> 40 & 15));
+    }
+    if kind == 1 {
+        return Ok(drains(queue, row, drawn >> 40 & 7));
     }
     let i = (drawn >> 30 & 15) as usize;
     let is_right = match row.places[i % 16] {

@@ -13,8 +13,9 @@ ghost use Rattle.fc_tree_node.specs.TreePlace.{before_gap_in, after_gap_in};
 
 use super::BTreeMap;
 use fc_base::{Count, Handle, TryReserveError};
-use fc_tree_insertion::insertion::{first_leaf, try_insert};
+use fc_tree_insertion::insertion::first_leaf;
 use fc_tree_insertion::leaf::insert_in_leaf;
+use fc_tree_insertion::ready::try_insert;
 use fc_tree_node::path::Path;
 use std::mem;
 

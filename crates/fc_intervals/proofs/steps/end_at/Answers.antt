@@ -25,7 +25,7 @@ returns-then-is_lt g c =
             let w : Stretch g.row.K.Denot g.row.V.Denot =
                 record { end = c.args.at; value = x.value } in w,
           ) ∷ not_below g.K.Ord.cmp s c.args.at) lent
-          ∙ end_written g.K.Ord.cmp g.met.K.Ord.total s c.requires c.args.at pair.1 pair.0 pair.3 test);
+          ∙ end_written g.K.Ord.cmp g.met.K.Ord.total s c.in-Some.ensures.ascending c.args.at c.requires pair.1 pair.0 pair.3 test);
     }
 
 pub returns-in-Some : goal.returns-in-Some
@@ -37,12 +37,12 @@ returns-in-Some g c =
     ∙ c.if-is_lt.false in
     record {
       ended = ◌∙◌ {b = entries c.args.map.now} (search rules)
-          (end_kept g.K.Ord.cmp g.met.K.Ord.total (entries c.args.map.now) c.requires c.args.at pair.1 pair.0 pair.3 test);
+          (end_kept g.K.Ord.cmp g.met.K.Ord.total (entries c.args.map.now) c.in-Some.ensures.ascending c.args.at c.requires pair.1 pair.0 pair.3 test);
     }
 
 pub returns : goal.returns
 returns g c =
     record {
       ended = ◌∙◌ {b = entries c.args.map.now} (search rules)
-          (end_none g.K.Ord.cmp g.met.K.Ord.total (entries c.args.map.now) c.requires c.args.at c.in_default.ensures.pair);
+          (end_none g.K.Ord.cmp g.met.K.Ord.total (entries c.args.map.now) c.in_default.ensures.ascending c.args.at c.requires c.in_default.ensures.pair);
     }

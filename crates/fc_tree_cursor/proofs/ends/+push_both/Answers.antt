@@ -22,7 +22,7 @@ returns-then-start-stop-clause-back g t c =
     let n = c.args.node.now in
     let e = amid_parted g.met.Q.Query.fits g.Q.Query.sought l.0 n l.1 c.requires.order c.args.lo.now c.args.hi.now _ _ c.if-start-stop.true
     (turn_first c.place_in-start.ensures) c.place_in-stop.ensures in
-    subst (GoesOn c.args.back.now c.push_cut-then-start-stop.new.gap n) e c.push_cut-then-start-stop.ensures.gap
+    subst (GoesOn c.args.back.now c.push_cut.new.gap n) e c.push_cut.ensures.gap
 
 pub push_both-requires : goal.push_both-requires
 push_both-requires g t c κs within =
@@ -57,19 +57,12 @@ returns-clause-back g t c =
     goes_below c.args.back.now c.push-2.new.self c.push_both.new.back i l.0 n c.child.result.now _ _ l.1 k c.push-2.ensures c.child.ensures
     c.push_both.ensures.back e
 
-pub returns-clause-first : goal.returns-clause-first
-returns-clause-first g t c =
+pub returns-clause-leaf : goal.returns-clause-leaf
+returns-clause-leaf g t c =
     let l = c.requires.levels in
-    let k = has_child g t (goal.at.returns-clause-first g t c).Else-is_leaf in
-    ends_below c.args.front.now c.push.new.self c.push_both.new.front c.place_in-start.result _ c.args.node.now c.child.result.now c.push_both.result.0.now
-    c.push.ensures c.child.ensures l.0 l.1 k c.push_both.ensures.front c.push_both.ensures.first
-
-pub returns-clause-last : goal.returns-clause-last
-returns-clause-last g t c =
-    let l = c.requires.levels in
-    let k = has_child g t (goal.at.returns-clause-last g t c).Else-is_leaf in
-    ends_below c.args.back.now c.push-2.new.self c.push_both.new.back c.place_in-start.result _ c.args.node.now c.child.result.now c.push_both.result.1.now
-    c.push-2.ensures c.child.ensures l.0 l.1 k c.push_both.ensures.back c.push_both.ensures.last
+    let k = has_child g t (goal.at.returns-clause-leaf g t c).Else-is_leaf in
+    ends_below c.args.front.now c.push.new.self c.push_both.new.front c.place_in-start.result _ c.args.node.now c.child.result.now c.push_both.result.now
+    c.push.ensures c.child.ensures l.0 l.1 k c.push_both.ensures.front c.push_both.ensures.leaf
 
 pub returns-then-is_leaf-clause-front : goal.returns-then-is_leaf-clause-front
 returns-then-is_leaf-clause-front g t c =
@@ -93,8 +86,5 @@ returns-then-is_leaf-clause-back g t c =
     c.args.hi.now _ c.place_in-start.ensures c.place_in-stop.ensures (omega (arith, c.if-start-stop.false)) in
     goes_here c.args.back.now c.push-2.new.self i l.0 n _ _ l.1 (omega arith) r.within c.push-2.ensures a refl
 
-pub returns-then-is_leaf-clause-first : goal.returns-then-is_leaf-clause-first
-returns-then-is_leaf-clause-first g t c = ends_here c.args.front.now c.push.new.self c.place_in-start.result c.args.node.now c.push.ensures
-
-pub returns-then-is_leaf-clause-last : goal.returns-then-is_leaf-clause-last
-returns-then-is_leaf-clause-last g t c = ends_here c.args.back.now c.push-2.new.self c.place_in-start.result c.args.node.now c.push-2.ensures
+pub returns-then-is_leaf-clause-leaf : goal.returns-then-is_leaf-clause-leaf
+returns-then-is_leaf-clause-leaf g t c = ends_here c.args.front.now c.push.new.self c.place_in-start.result c.args.node.now c.push.ensures

@@ -2,13 +2,12 @@ use Rattle.std.proofs.Common.{ℕ, ◌+◌, ◌≤◌, length, rules, arith, add
 use Rattle.std.proofs.lemmas.Bool.{false≢true}
 use Rattle.fc_tree_node.specs.Node.{pairs_of}
 use Rattle.fc_tree_node.specs.Path.{before_gap, after_gap}
-use Rattle.fc_tree_search.specs.Written.{with_child}
 use Rattle.fc_tree_for_each.specs.Visits.{CalledAtPair, IsEnd}
 use Rattle.fc_tree_for_each.proofs.Walking.{AreSteps, AreInner, leaf_steps, inner_steps, leaf_front, leaf_back, at_start, child_room, lent, below_back, at_next}
-use Rattle.fc_tree_for_each.proofs.Walking.{at_last, end_below, IsOver, over}
+use Rattle.fc_tree_for_each.proofs.Walking.{at_last, end_below, over}
 use Rattle.fc_tree_for_each.proofs.visit.+visit.Given as given
 use Rattle.fc_tree_for_each.proofs.visit.+visit.Goals as goal
-use Rattle.fc_tree_for_each.proofs.visit.+visit.Goals.{Then-is_leaf, Else-is_leaf, After-visit-2}
+use Rattle.fc_tree_for_each.proofs.visit.+visit.Goals.{Then-is_leaf, Else-is_leaf}
 
 -- the ends of the walk in a leaf
 of_leaf : (g : given.Over) (t : ℕ) (c : Then-is_leaf g t)
@@ -113,27 +112,10 @@ visit-requires-2 g t c κs within =
       ),
     )
 
-ended : (g : given.Over) (t : ℕ) (c : After-visit-2 g t)
-    → AreInner (CalledAtPair g.F.FnMut) c.args.node.now c.args.from.now c.args.to.now c.split-start.result.0 c.split-end.result.0
-    c.split-start.result.1.now c.split-end.result.1.now
-    → IsOver (CalledAtPair g.F.FnMut) c.args.node.now (with_child c.loop-i.node c.split-end.result.0 c.visit-2.new.node) c.args.f.now c.visit-2.new.f
-    c.args.from.now c.args.to.now
-ended g t c s =
+pub returns : goal.returns
+returns g t c =
     let R = CalledAtPair g.F.FnMut in
-    over R s (at_last R c.loop-i.invariant.at (omega (arith, c.loop-i-test.false))) c.child_in-2.ensures.value c.visit-2.ensures.visited
-    c.visit-2.ensures.size c.visit-2.ensures.levels c.visit-2.ensures.shape
-
-pub returns-clause-levels : goal.returns-clause-levels
-returns-clause-levels g t c =
-    let at = goal.at.returns-clause-levels g t c in
-    (ended g t at.After-visit-2 (inner g t at.Else-is_leaf)).levels
-
-pub returns-clause-shape : goal.returns-clause-shape
-returns-clause-shape g t c =
-    let at = goal.at.returns-clause-shape g t c in
-    (ended g t at.After-visit-2 (inner g t at.Else-is_leaf)).shape
-
-pub returns-clause-visited : goal.returns-clause-visited
-returns-clause-visited g t c =
-    let at = goal.at.returns-clause-visited g t c in
-    (ended g t at.After-visit-2 (inner g t at.Else-is_leaf)).visited
+    let v = c.visit-2.ensures in
+    let last = at_last R c.loop-i.invariant.at (omega (arith, c.loop-i-test.false)) in
+    let e = over R (inner g t (goal.at.returns g t c).Else-is_leaf) last c.child_in-2.ensures.value v.visited v.size v.levels v.shape in
+    record { callable = v.callable; size = e.size; shape = e.shape; levels = e.levels; visited = e.visited }

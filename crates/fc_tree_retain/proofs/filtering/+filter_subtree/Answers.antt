@@ -1,4 +1,4 @@
-use Rattle.std.proofs.Common.{◌≡◌, ℕ, suc, ◌+◌, ◌-◌, ◌<◌, rules, arith, subst}
+use Rattle.std.proofs.Common.{◌≡◌, ℕ, ◌+◌, ◌-◌, ◌<◌, rules, arith, sym, subst}
 use Rattle.std.proofs.lemmas.Bool.{false≢true}
 use Rattle.fc_tree_node.specs.declared.node.Node.{Node}
 use Rattle.fc_tree_node.proofs.Lent.{IsLent, IsReplaced, replaced}
@@ -9,7 +9,7 @@ use Rattle.fc_tree_retain.proofs.Levels.{loose_above, loose_height, loose_lent, 
 use Rattle.fc_tree_retain.proofs.Passing.{IsFiltering, child_left, filtering_start, filtering_more, IsAllFiltered, filtering_end}
 use Rattle.fc_tree_retain.proofs.filtering.+filter_subtree.Given as given
 use Rattle.fc_tree_retain.proofs.filtering.+filter_subtree.Goals as goal
-use Rattle.fc_tree_retain.proofs.filtering.+filter_subtree.Goals.{After-child_in, After-child_in-2, After-filter_subtree, After-filter_subtree-2}
+use Rattle.fc_tree_retain.proofs.filtering.+filter_subtree.Goals.{After-child_in, After-child_in-2, After-filter_subtree-2}
 
 lent_at : (g : given.Over) (t : ℕ) (c : After-child_in g t) → IsLent IsLoose IsLoose c.requires.loose.0 c.loop.node c.child_in.result.now c.loop.at
 lent_at g t c =
@@ -36,13 +36,17 @@ filter_subtree-requires g t c κs within =
     let falls : height_of c.child_in.result.now < height_of c.args.node.now = omega arith in
     (omega (arith, falls, c.decreases), (search rules, (search rules, (search rules, (search rules, ((l.below, l.child), c.loop.invariant.callable))))))
 
-pub filter_between-at-requires-clause-loose : goal.filter_between-at-requires-clause-loose
-filter_between-at-requires-clause-loose g t c =
-    let l = lent_at g t (goal.at.filter_between-at-requires-clause-loose g t c).After-child_in in
-    let at = c.loop.invariant.at in
+pub filter_between-at-requires-clause-child : goal.filter_between-at-requires-clause-child
+filter_between-at-requires-clause-child g t c =
+    let l = lent_at g t (goal.at.filter_between-at-requires-clause-child g t c).After-child_in in
     let m = replaced c.loop.node c.loop.at c.filter_subtree.new.node in
-    let w = child_left c.loop.node _ c.filter_subtree.new.node c.loop.at at.inner (omega arith) m in
-    (suc l.below, w.levels l.below l.levels (c.filter_subtree.ensures.loose l.below l.child))
+    let w = child_left c.loop.node _ c.filter_subtree.new.node c.loop.at c.loop.invariant.at.inner (omega arith) m in
+    (l.below, subst (IsLoose l.below) (sym w.child) (c.filter_subtree.ensures.loose l.below l.child))
+
+pub filter_between-at-requires-clause-fits : goal.filter_between-at-requires-clause-fits
+filter_between-at-requires-clause-fits g t c =
+    let l = lent_at g t (goal.at.filter_between-at-requires-clause-fits g t c).After-child_in in
+    omega (arith, (replaced c.loop.node c.loop.at c.filter_subtree.new.node).size, l.levels.0)
 
 pub filter_between-at-requires-clause-inner : goal.filter_between-at-requires-clause-inner
 filter_between-at-requires-clause-inner g t c =

@@ -3,9 +3,8 @@ use Rattle.fc_tree_node.specs.declared.node.Node.{Node}
 use Rattle.fc_tree_search.specs.Written.{with_child}
 use Rattle.fc_tree_node.specs.Node.{own_pairs, pairs_of, child_at}
 use Rattle.fc_tree_node.proofs.Lent.{replaced, lent_is}
-use Rattle.fc_tree_retain.specs.Loose.{IsLoose}
+use Rattle.fc_tree_retain.specs.Rebalancing.{IsThinOrLoose}
 use Rattle.fc_tree_retain.specs.Filtered.{FiltersPair}
-use Rattle.fc_tree_retain.proofs.Levels.{loose_child, inner_above}
 use Rattle.fc_tree_retain.proofs.Passing.{IsWritten, is_written, IsTurned, turned, passed_kept, passed_moved, passed_gone}
 use Rattle.fc_tree_search.proofs.WrittenPairs.{value_at}
 use Rattle.fc_tree_retain.proofs.filtering.filter_between.Given as given
@@ -15,7 +14,8 @@ use Rattle.fc_tree_retain.proofs.filtering.filter_between.Goals.{Else-stays, Aft
 pub returns-then-stays-clause-passed : goal.returns-then-stays-clause-passed
 returns-then-stays-clause-passed g c =
     let a = c.if-stays.ensures.asked in
-    passed_kept (FiltersPair g.S.Filter.asked g.S.Filter.given) IsLoose c.args.filter.now c.stays.new.filter c.args.at c.args.node.now c.stays.new.node a.0
+    passed_kept (FiltersPair g.S.Filter.asked g.S.Filter.given) (IsThinOrLoose c.args.rebalances)
+    c.args.filter.now c.stays.new.filter c.args.at c.args.node.now c.stays.new.node a.0
     c.requires.inner c.requires.inside a.3 a.1 (c.stays.new.filter, a.2, refl) a.4
 
 asked : (g : given.Over) (c : Else-stays g) → IsWritten c.args.node.now c.stays.new.node c.args.at c.if-stays.ensures.asked.1
@@ -45,11 +45,9 @@ child_in-requires g c =
 
 pub take_last-requires : goal.take_last-requires
 take_last-requires g c =
-    let n = c.args.node.now in
     let w = goal.at.take_last-requires g c in
     let is = lent g w.After-child_in (asked g w.Else-stays) in
-    let b = inner_above c.requires.loose.0 n c.requires.inner c.requires.loose.1 in
-    record { loose = (b.below, subst (IsLoose b.below) (sym is) (loose_child b.below n c.args.at b.levels (omega arith))) }
+    record { levels = (c.requires.child.0, subst (IsThinOrLoose c.args.rebalances c.requires.child.0) (sym is) c.requires.child.1) }
 
 pub remove_behind-requires-clause-inside : goal.remove_behind-requires-clause-inside
 remove_behind-requires-clause-inside g c =
@@ -83,7 +81,8 @@ returns-in-None-clause-passed g c =
     let gone = subst (λ y. g.S.Filter.given c.stays.new.filter y c.take.new.self) same c.take.ensures.given in
     let empty : pairs_of (child_at n i) ≡ [] =
     ap pairs_of (sym is) ∙ c.in-None.ensures.pairs ∙ append-nil (pairs_of c.take_last.new.node) ∙ c.in-None.ensures.none in
-    passed_gone (FiltersPair g.S.Filter.asked g.S.Filter.given) IsLoose c.args.filter.now c.take.new.self i n c.remove_behind.new.node a.0 c.requires.inner
+    passed_gone (FiltersPair g.S.Filter.asked g.S.Filter.given) (IsThinOrLoose c.args.rebalances)
+    c.args.filter.now c.take.new.self i n c.remove_behind.new.node a.0 c.requires.inner
     lt a.3
     a.1 _ c.take_last.new.node (c.stays.new.filter, a.2, gone) m r.pairs r.children empty
 
@@ -100,7 +99,8 @@ returns-in-Some-clause-passed g c =
     let x = c.replace_pair.result in
     let same : x ≡ (a.0.0, a.1) = r.value ∙ ap (λ ps. get_or ps i x) m.own ∙ value_at (own_pairs n) i a.1 a.0 x lt a.3 in
     let gone = subst (λ y. g.S.Filter.given c.stays.new.filter y c.take-in-Some.new.self) same c.take-in-Some.ensures.given in
-    passed_moved (FiltersPair g.S.Filter.asked g.S.Filter.given) IsLoose c.args.filter.now c.take-in-Some.new.self i n c.replace_pair.new.self a.0
+    passed_moved (FiltersPair g.S.Filter.asked g.S.Filter.given) (IsThinOrLoose c.args.rebalances)
+    c.args.filter.now c.take-in-Some.new.self i n c.replace_pair.new.self a.0
     c.requires.inner
     lt a.3 a.1 _ c.take_last.new.node c.in-Some.pair (c.stays.new.filter, a.2, gone) m r.pairs r.children (ap pairs_of (sym is) ∙ c.in-Some.ensures.pairs)
-    (λ h l. c.take_last.ensures.loose h (subst (IsLoose h) (sym is) l))
+    (λ h l. c.take_last.ensures.levels h (subst (IsThinOrLoose c.args.rebalances h) (sym is) l))

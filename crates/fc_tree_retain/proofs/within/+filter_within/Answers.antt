@@ -83,31 +83,31 @@ filter_within-requires g t c κs within =
       (search rules, (search rules, (search rules, (search rules, ((e.below, o.0, o.1, tt), (order_open _, c.loop.invariant.callable)))))),
     )
 
-pub filter_after-at-requires-clause-thin : goal.filter_after-at-requires-clause-thin
-filter_after-at-requires-clause-thin g t c =
-    let w = goal.at.filter_after-at-requires-clause-thin g t c in
+pub filter_between-at-requires-clause-child : goal.filter_between-at-requires-clause-child
+filter_between-at-requires-clause-child g t c =
+    let w = goal.at.filter_between-at-requires-clause-child g t c in
     let e = ends g t w.Else-is_leaf in
     let R = FiltersPair g.S.Filter.asked g.S.Filter.given in
     let l = lent g t w.After-child_in in
     (e.below, back_thin R _ _ _ _ _ _ _ _ _ c.loop.invariant.at _ _ _ l (came g t w.After-filter_within) c.filter_within.ensures.thin e.below e.levels)
 
-pub filter_after-at-requires-clause-fits : goal.filter_after-at-requires-clause-fits
-filter_after-at-requires-clause-fits g t c =
-    let w = goal.at.filter_after-at-requires-clause-fits g t c in
+pub filter_between-at-requires-clause-fits : goal.filter_between-at-requires-clause-fits
+filter_between-at-requires-clause-fits g t c =
+    let w = goal.at.filter_between-at-requires-clause-fits g t c in
     let fits = (ends g t w.Else-is_leaf).levels.0 in
     let z = (sizes g t w.After-filter_within (lent g t w.After-child_in)).2 in
     omega arith
 
-pub filter_after-at-requires-clause-inside : goal.filter_after-at-requires-clause-inside
-filter_after-at-requires-clause-inside g t c =
-    let w = goal.at.filter_after-at-requires-clause-inside g t c in
+pub filter_between-at-requires-clause-inside : goal.filter_between-at-requires-clause-inside
+filter_between-at-requires-clause-inside g t c =
+    let w = goal.at.filter_between-at-requires-clause-inside g t c in
     let inside = (ends g t w.Else-is_leaf).inside in
     let z = (sizes g t w.After-filter_within (lent g t w.After-child_in)).2 in
     omega arith
 
-pub filter_after-at-requires-clause-inner : goal.filter_after-at-requires-clause-inner
-filter_after-at-requires-clause-inner g t c =
-    let w = goal.at.filter_after-at-requires-clause-inner g t c in
+pub filter_between-at-requires-clause-inner : goal.filter_between-at-requires-clause-inner
+filter_between-at-requires-clause-inner g t c =
+    let w = goal.at.filter_between-at-requires-clause-inner g t c in
     (sizes g t w.After-filter_within (lent g t w.After-child_in)).0
 
 pub loop-preserved : goal.loop-preserved
@@ -115,11 +115,11 @@ loop-preserved g t c =
     let w = goal.at.loop-preserved g t c in
     let inside = (ends g t w.Else-is_leaf).inside in
     record {
-      callable = c.filter_after-at.ensures.callable;
+      callable = c.filter_between-at.ensures.callable;
       end = omega arith;
       at = stretching_more (FiltersPair g.S.Filter.asked g.S.Filter.given) _ _ _ _ _ _ _ _ _ c.loop.invariant.at _ _ _ (lent g t w.After-child_in)
-          (came g t w.After-filter_within) c.filter_within.ensures.thin c.filter_within.new.filter c.filter_after-at.new.filter c.filter_after-at.new.node
-          c.filter_after-at.result (omega arith) c.filter_within.ensures.filtered c.filter_after-at.ensures.passed;
+          (came g t w.After-filter_within) c.filter_within.ensures.thin c.filter_within.new.filter c.filter_between-at.new.filter c.filter_between-at.new.node
+          c.filter_between-at.result (omega arith) c.filter_within.ensures.filtered c.filter_between-at.ensures.passed;
     }
 
 pub filter_within-requires-2 : goal.filter_within-requires-2

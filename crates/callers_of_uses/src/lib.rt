@@ -1,0 +1,5 @@
+//! Callers of the collections that stand over the library, as `CALLING.md` of each quotes them.
+#![tactic(auto)]
+
+pub mod cache;
+pub mod timers;

@@ -1,2 +1,0 @@
-pub mod Expiry
-pub mod StepFacts

@@ -1,3 +1,0 @@
-pub mod Due
-pub mod Times
-pub mod Refusal

@@ -1,0 +1,3 @@
+pub mod Edged
+pub mod Laws
+pub mod Listed

@@ -1,0 +1,45 @@
+-- A table as contracts see it: the list of its rows by their ids, and what lists them by a second key.
+use Rattle.std.specs.Prelude.{◌≡◌, ◌&&◌, Bool, false, List, Option, Some, None, is_some}
+use Rattle.std.specs.Ordering.{is_eq, ordering_then}
+use Rattle.std.specs.declared.cmp.Ordering.{Ordering}
+use Rattle.std.specs.declared.ops.Bound.{Bound}
+use Rattle.fc_base.specs.OneKey.{put}
+use Rattle.fc_base.specs.Parts.{value_at}
+use Rattle.fc_base.specs.Ranges.{starts, stops}
+use Rattle.fc_set.specs.Items.{item_at, without, AreAscending}
+use Rattle.fc_index.specs.declared.keyed.Keyed.{Keyed}
+
+-- The order of a key and an id: that of the keys, and where these are equal, that of the ids.
+abbrev pub key_then_id : {K I : Type 0} → (K → K → Ordering) → (I → I → Ordering) → K × I → K × I → Ordering
+key_then_id cmp ids a b = ordering_then (cmp a.0 b.0) (ids a.1 b.1)
+
+-- Whether a key lies within two bounds.
+abbrev pub lies : {K : Type 0} → (K → K → Ordering) → Bound K → Bound K → K → Bool
+lies cmp lo hi k = starts cmp lo k && stops cmp hi k
+
+-- Whether a row is there, and k is equal to its key.
+abbrev pub has_key : {K R : Type 0} → (K → K → Ordering) → (R → K) → Option R → K → Bool
+has_key cmp key None k = false
+has_key cmp key (Some r) k = is_eq (cmp k (key r))
+
+module _ {K I R : Type 0} (cmp : K → K → Ordering) (ids : I → I → Ordering) (key : R → K) where
+  -- The index lists exactly the rows: a key and an id stand in it where a row of that key is at the id, and nowhere else.
+  pub record Lists (rows : List (I × R)) (index : List (K × I)) : Type 0 where
+    pub exact : (k : K) (i : I) → is_some (item_at (key_then_id cmp ids) index (k, i)) ≡ has_key cmp key (value_at ids rows i) k
+
+  -- The walk has exactly the rows whose keys are chosen, each once, as its key and its id, in the order of the keys, and of the ids where keys are equal.
+  pub record AreByKey (chosen : K → Bool) (rows : List (I × R)) (walk : List (K × I)) : Type 0 where
+    pub ascending : AreAscending (key_then_id cmp ids) walk
+    pub exact : (k : K) (i : I) → is_some (item_at (key_then_id cmp ids) walk (k, i)) ≡ (chosen k && has_key cmp key (value_at ids rows i) k)
+
+-- The index without the item of an old key and an id, if there is an old key.
+abbrev pub without_old : {K I : Type 0} → (K → K → Ordering) → (I → I → Ordering) → List (K × I) → Option K → I → List (K × I)
+without_old cmp ids index None id = index
+without_old cmp ids index (Some old) id = without (key_then_id cmp ids) index (old, id)
+
+-- The row at an id, which has its keys still, has another value in the place of an old one.
+pub record IsValueSet {I A B V : Type 0} (ids : I → I → Ordering) (id : I) (old value : V) (before after : List (I × Keyed A B V)) : Type 0 where
+  pub row : Keyed A B V
+  pub there : value_at ids before id ≡ Some row
+  pub had : row.value ≡ old
+  pub set : after ≡ put ids before id (record { first = row.first; second = row.second; value = value })

@@ -1,0 +1,28 @@
+use Rattle.std.proofs.Common.{ap}
+use Rattle.std.specs.Ordering.{is_le}
+use Rattle.std.proofs.lemmas.Result.{on_ok_weaker}
+use Rattle.fc_map.specs.Entries.{entries}
+use Rattle.fc_intervals.proofs.Parted.{front_parted, put_parted}
+use Rattle.fc_intervals.proofs.steps.put_across.Goals as goal
+
+pub put_parted-requires : goal.put_parted-requires
+put_parted-requires g c =
+    let parted = c.in-Ok.ensures.parted in
+    front_parted g.K.Ord.cmp g.met.K.Ord.total (entries c.args.map.now) c.requires.apart g.V.TryClone.same c.args.stretch.end parted.rest
+    parted.is_rest c.args.from (ap is_le c.requires.range) (entries c.part.new.map) parted.is
+
+pub returns-in-Ok-clause-apart : goal.returns-in-Ok-clause-apart
+returns-in-Ok-clause-apart g c =
+    let parted = c.in-Ok.ensures.parted in
+    on_ok_weaker c.put_parted.result (λ e.
+    (put_parted g.K.Ord.cmp g.met.K.Ord.total (entries c.args.map.now) c.requires.apart g.V.TryClone.same c.args.stretch.end parted.rest
+    parted.is_rest c.args.from c.requires.range c.args.stretch.value (entries c.part.new.map) (entries c.put_parted.new.map) parted.is e).0)
+    c.put_parted.ensures.put
+
+pub returns-in-Ok-clause-written : goal.returns-in-Ok-clause-written
+returns-in-Ok-clause-written g c =
+    let parted = c.in-Ok.ensures.parted in
+    on_ok_weaker c.put_parted.result (λ e.
+    (put_parted g.K.Ord.cmp g.met.K.Ord.total (entries c.args.map.now) c.requires.apart g.V.TryClone.same c.args.stretch.end parted.rest
+    parted.is_rest c.args.from c.requires.range c.args.stretch.value (entries c.part.new.map) (entries c.put_parted.new.map) parted.is e).1)
+    c.put_parted.ensures.put
