@@ -5,23 +5,21 @@ use fc_intervals::IntervalMap;
 use std::alloc::Global;
 use std::test::Fail;
 
-// Whether a point and the one ahead of it have one value.
-fn goes_on_at(row: &Row, point: usize) -> bool {
-    0 < point && row[point - 1] != 0 && row[point - 1] == row[point]
-}
-
 // Whether just those stretches are joined, at all points of the row in turn, that touch and hold equal values; and none of them twice.
 fn joins(map: &mut Numbers, row: &Row) -> bool {
-    for point in 0..24usize {
+    let mut point = 0u64;
+    let mut before = 0u64;
+    for value in row {
+        let goes_on = *value != 0 && *value == before;
         let len = map.len();
-        let is_one = map.join_at(point as u64);
-        let fewer = is_one as usize;
-        if is_one != goes_on_at(row, point) || map.len().wrapping_add(fewer) != len {
+        if map.join_at(point) != goes_on || map.len().wrapping_add(goes_on as usize) != len {
             return false;
         }
-        if map.join_at(point as u64) || !has_row(map, row) {
+        if map.join_at(point) || !has_row(map, row) {
             return false;
         }
+        point = point.wrapping_add(1);
+        before = *value;
     }
     true
 }
@@ -52,8 +50,8 @@ fn stretches_that_touch_are_joined(rt: HostRuntime) -> Result<(), Fail> {
 #[test]
 fn a_stretch_is_one_with_its_neighbours(rt: HostRuntime) -> Result<(), Fail> {
     let mut map: Numbers = IntervalMap::new(rt.alloc());
-    for (start, value) in [(0, 7), (10, 8), (20, 7), (30, 7)] {
-        assert!(rt; map.put(start..start + 10, value).is_ok());
+    for (range, value) in [(0..10, 7), (10..20, 8), (20..30, 7), (30..40, 7)] {
+        assert!(rt; map.put(range, value).is_ok());
     }
     assert!(rt; map.put(10..20, 7).is_ok() && map.len() == 4);
     assert!(rt; map.join_at(10) && map.join_at(20) && !map.join_at(15) && map.len() == 2);
