@@ -1,16 +1,17 @@
 -- What a slot names, in a tournament and while a change of one slot is settled.
-use Rattle.std.proofs.Common.{◌≡◌, ◌≢◌, ◌⊎◌, ℕ, zero, suc, ◌+◌, ◌-◌, ◌*◌, ◌/◌, ◌<◌, ◌≤◌, Bool, true, false}
+use Rattle.std.proofs.Common.{◌≡◌, ◌≢◌, ◌⊎◌, ℕ, zero, suc, ◌+◌, ◌-◌, ◌*◌, ◌/◌, ◌<◌, ◌≤◌, ◌==◌, Bool, true, false, not}
 use Rattle.std.proofs.Common.{if◌then◌else◌, List, length, get_or, set, Option, Some, None, refl, sym, ap, subst, ◌∙◌, inl, inr, arith}
-use Rattle.std.proofs.lemmas.Bool.{cases_eq}
+use Rattle.std.proofs.lemmas.Bool.{cases_eq, eqb-true, eq-eqb}
 use Rattle.std.proofs.lemmas.List.{map-set, get_or-set_same, get_or-set_other, get_or_past}
 use Rattle.std.proofs.Math.Seq.{map-set_same}
+use Rattle.std.specs.Prelude.{◌&&◌}
 use Rattle.std.specs.Cmp.{IsTotalOrder}
 use Rattle.std.specs.declared.cmp.Ordering.{Ordering}
 use Rattle.fc_timers.specs.declared.timer.Armed.{Armed}
 use Rattle.fc_timers.specs.declared.slot.First.{First}
 use Rattle.fc_timers.specs.declared.slot.Slot.{Slot}
 use Rattle.fc_timers.specs.Timers.{due_first}
-use Rattle.fc_timers.specs.Tournament.{helds, firsts, own_first, earlier, first_from, IsSettled, IsSettledBut}
+use Rattle.fc_timers.specs.Tournament.{helds, firsts, own_first, earlier, first_from, kept, AreNamed, IsSettled, IsSettledBut}
 use Rattle.fc_timers.proofs.Turns.{due_first_itself, due_first_turned, due_first_chained}
 
 module _ {T : Type 0} (cmp : T → T → Ordering) where
@@ -51,10 +52,51 @@ module _ {T : Type 0} (cmp : T → T → Ordering) where
         by_test true e = (due_first_itself o a.at a.turn, e)
         by_test false e = (due_first_turned o a.at a.turn b.at b.turn e, due_first_itself o b.at b.turn)
 
+both_true : (a b : Bool) → (a && b) ≡ true → (a ≡ true) × (b ≡ true)
+both_true true true e = (refl, refl)
+both_true true false e = absurd cc
+both_true false b e = absurd cc
+
 module _ {T V : Type 0} where
   own_slot : (k : ℕ) (h : Option (Armed T V)) (f : First T) → own_first k h ≡ Some f → f.slot ≡ k
   own_slot k None f e = absurd cc
   own_slot k (Some a) f e = let whole : record { at = a.at; turn = a.turn; slot = k } ≡ f = cc in ap (λ x. x.slot) (sym whole)
+
+module _ {T V : Type 0} (cmp : T → T → Ordering) (held : List (Option (Armed T V))) (first : List (Option (First T))) where
+  -- What a slot names, once it is settled, stands in its slot too, but for that of the slot which changed.
+  pub named_from : (changed k : ℕ) → AreNamed held first changed → (f : First T) → first_from cmp held first k ≡ Some f → f.slot ≢ changed
+      → own_first f.slot (get_or held f.slot None) ≡ Some f
+  named_from changed k a f e apart = elim (either cmp _ _ f e) [
+    | inl own ↦ subst (λ j. own_first j (get_or held j None) ≡ Some f) (sym (own_slot k _ f own)) own
+    | inr below ↦ elim (either cmp _ _ f below) [
+      | inl left ↦ a.named (2 * k + 1) f left apart
+      | inr right ↦ a.named (2 * k + 2) f right apart
+    ]
+  ]
+
+  pub named_step : (changed k : ℕ) → k < length first → AreNamed held first changed → AreNamed held (set first k (first_from cmp held first k)) changed
+  named_step changed k within a = record {
+    named = λ j f e apart. elim (cases_eq j k) [
+      | inl here ↦ named_from changed k a f (sym (get_or-set_same first k _ None within) ∙ (λ i. get_or (set first k (first_from cmp held first k)) (sym here i) None) ∙ e) apart
+      | inr other ↦ a.named j f (sym (get_or-set_other first k j _ None other) ∙ e) apart
+    ];
+  }
+
+  -- A slot names what it named, where slots tell so.
+  pub kept_same : (changed k : ℕ) → AreNamed held first changed → kept changed (get_or first k None) (first_from cmp held first k) ≡ true
+      → get_or first k None ≡ first_from cmp held first k
+  kept_same changed k a e = go (get_or first k None) (first_from cmp held first k) refl refl e
+    where
+      go : (was now : Option (First T)) → get_or first k None ≡ was → first_from cmp held first k ≡ now → kept changed was now ≡ true → was ≡ now
+      go None None i j e = refl
+      go None (Some b) i j e = absurd cc
+      go (Some b) None i j e = absurd cc
+      go (Some b) (Some d) i j e =
+          let both = both_true (not (b.slot == changed)) (b.slot == d.slot) e in
+          let same : b.slot ≡ d.slot = eqb-true b.slot d.slot both.1 in
+          let apart : b.slot ≢ changed = λ q. absurd (let no : false ≡ true = sym (ap not (eq-eqb b.slot changed q)) ∙ both.0 in cc) in
+          sym (a.named k b i apart) ∙ (λ i. own_first (same i) (get_or held (same i) None))
+          ∙ named_from changed k a d j (λ q. apart (same ∙ q))
 
 module _ {T V : Type 0} {cmp : T → T → Ordering} where
   module _ (held : List (Option (Armed T V))) (first : List (Option (First T))) where
@@ -91,6 +133,16 @@ module _ {T V : Type 0} {cmp : T → T → Ordering} where
         there : (j : ℕ) → j ≢ n - 1 → j + 1 ≢ n / 2 → IsSettled cmp held written j
         there j other apart = kept j other ∙ s.settled j (omega arith) ∙ sym (from j (omega arith) (omega arith))
 
+    -- A slot that names what it named is settled, and so each one is.
+    pub settled_kept : (n : ℕ) → 0 < n → IsSettledBut cmp held first n → get_or first (n - 1) None ≡ first_from cmp held first (n - 1)
+        → IsSettledBut cmp held first 0
+    settled_kept n some s same = record {
+      settled = λ k apart. elim (cases_eq k (n - 1)) [
+        | inl here ↦ subst (IsSettled cmp held first) (sym here) same
+        | inr other ↦ s.settled k (omega arith)
+      ];
+    }
+
     module _ (s : IsSettledBut cmp held first 0) where
       names : (k : ℕ) → get_or first k None ≡ first_from cmp held first k
       names k = s.settled k (omega arith)
@@ -107,6 +159,12 @@ module _ {T V : Type 0} {cmp : T → T → Ordering} where
                   | inr right ↦ stands fuel (2 * k + 2) f (omega arith) right
                 ]
           ]
+
+      -- While one slot has changed, the others' timers stand where they are named.
+      pub named_at : (k : ℕ) (h : Option (Armed T V)) → AreNamed (set held k h) first k
+      named_at k h = record {
+        named = λ j f e apart. ap (own_first f.slot) (get_or-set_other held k f.slot h None apart) ∙ stands (length first) j f (omega arith) e;
+      }
 
       module _ (o : IsTotalOrder cmp) where
         at_most : ℕ → Option (First T) → Type 0
@@ -147,6 +205,11 @@ module _ {T V : Type 0} {cmp : T → T → Ordering} where
       → IsSettledBut cmp (helds slots) (firsts slots) 0 → IsSettledBut cmp (helds (set slots k now)) (firsts (set slots k now)) (k + 1)
   unsettled_by slots k now was same s =
       rw (map-set (λ s. s.held) slots k now, map-set_same (λ s. s.first) slots k now was same) (unsettled_at (helds slots) (firsts slots) k now.held s)
+
+  pub named_by : (slots : List (Slot T V)) (k : ℕ) (now was : Slot T V) → now.first ≡ (get_or slots k was).first
+      → IsSettledBut cmp (helds slots) (firsts slots) 0 → AreNamed (helds (set slots k now)) (firsts (set slots k now)) k
+  named_by slots k now was same s =
+      rw (map-set (λ s. s.held) slots k now, map-set_same (λ s. s.first) slots k now was same) (named_at (helds slots) (firsts slots) s k now.held)
 
   -- A write of neither settles nor unsettles a slot.
   pub settled_by : (slots : List (Slot T V)) (k : ℕ) (now was : Slot T V) → now.held ≡ (get_or slots k was).held → now.first ≡ (get_or slots k was).first

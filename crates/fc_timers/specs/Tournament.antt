@@ -1,10 +1,18 @@
 -- The tournament among the slots of a queue. No public clause cites this module.
-use Rattle.std.specs.Prelude.{◌≡◌, ◌≢◌, ℕ, zero, suc, ◌+◌, ◌*◌, ◌^◌, ◌<◌, ◌≤◌, if◌then◌else◌, List, map, Option, Some, None, is_some, count_by, length, slice_index_or}
+use Rattle.std.specs.Prelude.{◌≡◌, ◌≢◌, ℕ, zero, suc, ◌+◌, ◌*◌, ◌^◌, ◌<◌, ◌≤◌, ◌==◌, ◌&&◌, Bool, true, false, not, if◌then◌else◌, List, map, Option, Some, None, is_some, count_by, length, slice_index_or}
 use Rattle.std.specs.declared.cmp.Ordering.{Ordering}
 use Rattle.fc_timers.specs.declared.timer.Armed.{Armed}
 use Rattle.fc_timers.specs.declared.slot.First.{First}
 use Rattle.fc_timers.specs.declared.slot.Slot.{Slot}
 use Rattle.fc_timers.specs.Timers.{Queue, IsEarliest, due_first}
+
+module _ {T : Type 0} where
+  -- Whether a slot that named the one names the other: that of a slot which did not change, or none.
+  abbrev pub kept : ℕ → Option (First T) → Option (First T) → Bool
+  kept changed None None = true
+  kept changed None (Some b) = false
+  kept changed (Some a) None = false
+  kept changed (Some a) (Some b) = not (a.slot == changed) && (a.slot == b.slot)
 
 module _ {T V : Type 0} where
   abbrev pub helds : List (Slot T V) → List (Option (Armed T V))
@@ -25,6 +33,10 @@ module _ {T V : Type 0} where
   abbrev pub own_first : ℕ → Option (Armed T V) → Option (First T)
   own_first k None = None
   own_first k (Some a) = Some (record { at = a.at; turn = a.turn; slot = k })
+
+  -- Each timer that a slot names is one that stands in its slot, but for that of a slot which changed.
+  pub record AreNamed (held : List (Option (Armed T V))) (first : List (Option (First T))) (changed : ℕ) : Type 0 where
+    pub named : (k : ℕ) (f : First T) → slice_index_or first k None ≡ Some f → f.slot ≢ changed → own_first f.slot (slice_index_or held f.slot None) ≡ Some f
 
   -- Each timer has a number and a turn below this one, and no two have one turn.
   pub record IsGivenOut (held : List (Option (Armed T V))) (next_number : ℕ) : Type 0 where

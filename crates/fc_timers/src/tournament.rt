@@ -1,7 +1,7 @@
 //! The tournament among the slots: each names the first to be due of its own timer and of those below it, so the slot at the top names
 //! the first of all. A change of one slot is settled there and at each slot above it.
 ghost use Rattle.std.specs.Prelude.{◌≡◌, ◌+◌, ◌*◌, ◌<◌, Some, None, length, slice_index_or, slice_set};
-ghost use Rattle.fc_timers.specs.Tournament.{IsSettledBut, earlier as first_of, first_from, firsts, helds, nexts, own_first as own};
+ghost use Rattle.fc_timers.specs.Tournament.{AreNamed, IsSettledBut, earlier as first_of, first_from, firsts, helds, kept, nexts, own_first as own};
 ghost use Rattle.fc_timers.specs.Timers.{renewed};
 
 use crate::order::earlier;
@@ -45,28 +45,45 @@ fn first_below<T: Ord + Copy, V>(slots: &[Slot<T, V>], at: usize) -> Option<Firs
     }
 }
 
-// Has a slot name the first of its own timer and of those below it.
-fn settle<T: Ord + Copy, V>(slots: &mut [Slot<T, V>], at: usize)
+// Whether a slot that named the one timer names it still, or none still, as far as slots tell: not where the timer of the given slot is named, which is another.
+fn is_kept<T>(was: &Option<First<T>>, now: &Option<First<T>>, changed: usize) -> bool
+    ensures { result ≡ kept changed was.now now.now }
+{
+    match (was, now) {
+        (Some(a), Some(b)) => a.slot != changed && a.slot == b.slot,
+        (None, None) => true,
+        _ => false,
+    }
+}
+
+// Has a slot name the first of its own timer and of those below it, and answers whether it names what it named.
+fn settle<T: Ord + Copy, V>(slots: &mut [Slot<T, V>], at: usize, changed: usize) -> bool
     requires { at < length slots.old }
     ensures held { helds slots.new ≡ helds slots.old }
     ensures next { nexts slots.new ≡ nexts slots.old }
     ensures first { firsts slots.new ≡ slice_set (firsts slots.old) at (first_from T.cmp (helds slots.old) (firsts slots.old) at) }
+    ensures kept { result ≡ kept changed (slice_index_or (firsts slots.old) at None) (first_from T.cmp (helds slots.old) (firsts slots.old) at) }
 {
     let first = earlier(own_first(slots, at), first_below(slots, at));
+    let is_kept = is_kept(&slots[at].first, &first, changed);
     slots[at].first = first;
+    is_kept
 }
 
-// Settles a slot and all above it.
+// Settles the slot that changed, and all above it up to one that names what it named.
 fn settle_up<T: Ord + Copy, V>(slots: &mut [Slot<T, V>], slot: usize)
     requires within { slot < length slots.old }
     requires others { IsSettledBut T.cmp (helds slots.old) (firsts slots.old) (slot + 1) }
+    requires named { AreNamed (helds slots.old) (firsts slots.old) slot }
     ensures held { helds slots.new ≡ helds slots.old }
     ensures next { nexts slots.new ≡ nexts slots.old }
     ensures settled { IsSettledBut T.cmp (helds slots.new) (firsts slots.new) 0 }
 {
     let mut end = slot + 1;
     'up: while 0 < end {
-        settle(slots, end - 1);
+        if settle(slots, end - 1, slot) {
+            return;
+        }
         end = end / 2;
     }
 }
