@@ -1,0 +1,1 @@
+use Rattle.fc_index.proofs.steps.put_keys.Goals as goal
