@@ -1,6 +1,6 @@
 -- An index lists the rows by their keys still, once a row was put or cut.
-use Rattle.std.proofs.Common.{◌≡◌, Bool, true, false, cond, List, [], ◌∷◌, Option, Some, None, map, refl, sym, ap, ◌∙◌, subst, length, arith}
-use Rattle.std.specs.Prelude.{not, ◌&&◌, ◌||◌, is_some, IsSome, ⊤, ◌+◌}
+use Rattle.std.proofs.Common.{◌≡◌, Bool, true, false, cond, List, [], ◌∷◌, ◌++◌, ℕ, ◌⊎◌, inl, inr, Option, Some, None, map, refl, sym, ap, ◌∙◌, subst, length, arith}
+use Rattle.std.specs.Prelude.{not, ◌&&◌, ◌||◌, ◌↔◌, is_some, unwrap_or, option_to_list, IsSome, IsTrue, ⊤, ◌+◌}
 use Rattle.std.specs.List.{AllByRecursion}
 use Rattle.std.specs.Option.{option_map}
 use Rattle.std.specs.Cmp.{IsTotalOrder}
@@ -9,11 +9,13 @@ use Rattle.std.specs.declared.cmp.Ordering.{Ordering}
 use Rattle.std.specs.declared.cmp.Ordering.TheVariants.{Less, Equal, Greater}
 use Rattle.std.proofs.lemmas.Cmp.{on_total, then_total, tied_itself, alike_right}
 use Rattle.std.proofs.lemmas.List.{length-map}
+use Rattle.fc_base.specs.declared.try_reserve_error.TryReserveError.{TryReserveError}
 use Rattle.fc_base.specs.Ascending.{IsAscending}
+use Rattle.fc_base.specs.Growth.{MayGrowRefuse}
 use Rattle.fc_base.specs.OneKey.{put, cut}
-use Rattle.fc_base.specs.Parts.{at, value_at}
+use Rattle.fc_base.specs.Parts.{at, below, above, value_at}
 use Rattle.fc_base.proofs.AscendingFacts.{is_equal}
-use Rattle.fc_base.proofs.Laws.{value_at_equal, value_at_put_equal, value_at_put_other, at_cut, value_at_cut_other, cut_put_new}
+use Rattle.fc_base.proofs.Laws.{value_at_equal, value_at_put_equal, value_at_put_other, at_cut, value_at_cut_other, cut_put_new, parts_joined}
 use Rattle.fc_base.proofs.Laws.{length_cut_there, length_put_there, length_put_new}
 use Rattle.fc_set.specs.Items.{item_at, without, with_item, AreAscending}
 use Rattle.fc_set.proofs.ItemFacts.{keys, keys_length, item_at_keys, with_item_keys, without_keys, none_keys, some_keys}
@@ -91,11 +93,32 @@ module _ {T : Type 0} (cmp : T → T → Ordering) (total : IsTotalOrder cmp) wh
     some_in_pairs : is_some (item_at cmp s x) ≡ true → IsSome (at cmp (pairs s) x)
     some_in_pairs e = some_keys cmp (pairs s) x (ap (λ l. is_some (item_at cmp l x)) (pairs_keys s) ∙ e)
 
-    -- An item that was new and is taken out again leaves the list as it was.
-    pub taken_back : AreAscending cmp s → item_at cmp s x ≡ None → without cmp (with_item cmp s x) x ≡ s
-    taken_back a none =
-        ap (λ l. without cmp l x) put_pairs ∙ without_keys cmp (put cmp (pairs s) x tt) x
-        ∙ ap keys (cut_put_new cmp (pairs s) x tt total (ascending_pairs s a) (none_in_pairs none)) ∙ pairs_keys s
+    -- An item that is there already is not put in.
+    with_there : AreAscending cmp s → is_some (item_at cmp s x) ≡ true → with_item cmp s x ≡ s
+    with_there a there = put_pairs ∙ ap keys (go (at cmp (pairs s) x) refl) ∙ pairs_keys s
+      where
+        ahead : List (T × ⊤)
+        ahead = below cmp (pairs s) x
+
+        later : List (T × ⊤)
+        later = above cmp (pairs s) x
+
+        go : (o : Option (T × ⊤)) → at cmp (pairs s) x ≡ o → put cmp (pairs s) x tt ≡ pairs s
+        go None e = absurd (let no : true ≡ false = sym (some_in_pairs there) ∙ ap is_some e in cc)
+        go (Some y) e = ap (λ o. ahead ++ (unwrap_or (option_map (λ z. z.0) o) x, tt) ∷ later) e
+            ∙ sym (ap (λ o. ahead ++ (option_to_list o ++ later)) e) ∙ parts_joined cmp (pairs s) x total (ascending_pairs s a)
+
+    -- An item that is put in, and taken out again if it was new, leaves the list as it was.
+    pub taken_back : (new : Bool) (more rest : List T) → AreAscending cmp s → IsTrue new ↔ (item_at cmp s x ≡ None) → more ≡ with_item cmp s x
+        → rest ≡ cond new (without cmp more x) more → rest ≡ s
+    taken_back true more rest a is put_in left =
+        left ∙ ap (λ l. without cmp l x) (put_in ∙ put_pairs) ∙ without_keys cmp (put cmp (pairs s) x tt) x
+        ∙ ap keys (cut_put_new cmp (pairs s) x tt total (ascending_pairs s a) (none_in_pairs (is.0 refl))) ∙ pairs_keys s
+    taken_back false more rest a is put_in left = left ∙ put_in ∙ with_there a (go (item_at cmp s x) refl)
+      where
+        go : (o : Option T) → item_at cmp s x ≡ o → is_some (item_at cmp s x) ≡ true
+        go None e = absurd (let no : false ≡ true = is.1 e in cc)
+        go (Some y) e = ap is_some e
 
     length_with_new : AreAscending cmp s → is_some (item_at cmp s x) ≡ false → length (with_item cmp s x) ≡ length s + 1
     length_with_new a new =
@@ -133,12 +156,16 @@ module _ {T : Type 0} (cmp : T → T → Ordering) (total : IsTotalOrder cmp) wh
           ∙ elim (is_eq (cmp y x)) as (λ b. is_some (cond b None (value_at cmp (pairs s) y)) ≡ (not b && is_some (item_at cmp s y)))
           [ true ↦ refl | false ↦ of_items ]
 
+pub key_order_total : {K I : Type 0} (cmp : K → K → Ordering) (ids : I → I → Ordering) → IsTotalOrder cmp → IsTotalOrder ids
+    → IsTotalOrder (key_then_id cmp ids)
+key_order_total cmp ids total totals = then_total (on_total (λ t. t.0) total) (on_total (λ t. t.1) totals)
+
 module _ {K I R : Type 0} (cmp : K → K → Ordering) (ids : I → I → Ordering) (key : R → K) (total : IsTotalOrder cmp) (totals : IsTotalOrder ids) where
   abbrev order : K × I → K × I → Ordering
   order = key_then_id cmp ids
 
-  pub order_total : IsTotalOrder order
-  order_total = then_total (on_total (λ t. t.0) total) (on_total (λ t. t.1) totals)
+  order_total : IsTotalOrder order
+  order_total = key_order_total cmp ids total totals
 
   -- At an id of which it is known whether it is the given one, and whether its key is equal to the new or to the old one: what stands in an index with an item
   -- more, or fewer, and which row is there.
@@ -202,8 +229,12 @@ module _ {K I R : Type 0} (cmp : K → K → Ordering) (ids : I → I → Orderi
         → Lists cmp ids key (cut ids rows i) (without order index (key old, i))
     lists_cut old held ascends = record {
       ascending = ascends;
-      many = omega (arith, length_without_there order order_total index (key old, i) listed.ascending (own old held),
-          length_cut_there ids rows i totals a (at_some ids rows i old held), listed.many);
+      many = omega (
+        arith,
+        length_without_there order order_total index (key old, i) listed.ascending (own old held),
+        length_cut_there ids rows i totals a (at_some ids rows i old held),
+        listed.many,
+      );
       exact = λ k j. there_without order order_total index (key old, i) (k, j)
           ∙ rw (both_equal (cmp k (key old)) (ids j i), listed.exact k j, value_cut ids totals rows i j)
           (one_fewer (is_eq (cmp k (key old))) (is_eq (ids j i)) old k (value_at ids rows j) (held_at rows i (Some old) held j) refl);
@@ -247,12 +278,21 @@ module _ {K I R : Type 0} (cmp : K → K → Ordering) (ids : I → I → Orderi
         ∙ rw (own old held) (or_true (is_eq (order (key old, i) (key r, i)))) in
         record {
           ascending = ascends;
-          many = omega (arith, length_without_there order order_total more (key old, i) between stays,
-              length_with_new order order_total index (key r, i) listed.ascending new, listed.many,
-              length_put_there ids rows i r totals a (at_some ids rows i old held));
+          many = omega (
+            arith,
+            length_without_there order order_total more (key old, i) between stays,
+            length_with_new order order_total index (key r, i) listed.ascending new,
+            listed.many,
+            length_put_there ids rows i r totals a (at_some ids rows i old held),
+          );
           exact = λ k j. there_without order order_total more (key old, i) (k, j)
-              ∙ rw (both_equal (cmp k (key old)) (ids j i), there_with order order_total index (key r, i) (k, j), both_equal (cmp k (key r)) (ids j i),
-              listed.exact k j, value_put ids totals rows i j r)
+              ∙ rw (
+                both_equal (cmp k (key old)) (ids j i),
+                there_with order order_total index (key r, i) (k, j),
+                both_equal (cmp k (key r)) (ids j i),
+                listed.exact k j,
+                value_put ids totals rows i j r,
+              )
               (one_other (is_eq (cmp k (key r))) (is_eq (cmp k (key old))) (is_eq (ids j i)) old r k (value_at ids rows j) (held_at rows i (Some old) held j)
               refl refl (equal_one (key old) (key r) k apart));
         }
@@ -293,12 +333,22 @@ module _ {K I R : Type 0} (cmp : K → K → Ordering) (ids : I → I → Orderi
           left ∙ (λ n. without_old cmp ids (with_new n) (of_old n) (key r) i) in
           rw (put_in, is) (lists_put r old (sym held) (subst (AreAscending order) with_new between) (subst (AreAscending order) is ascends))
 
+      pub listed_back : (k : K) (new : Bool) (added rest : List (K × I)) → more ≡ rows → IsTrue new ↔ (item_at order index (k, i) ≡ None)
+          → added ≡ with_item order index (k, i) → rest ≡ cond new (without order added (k, i)) added → Lists cmp ids key more rest
+      listed_back k new added rest same is put_in left =
+          rw (same, taken_back order order_total index (k, i) new added rest listed.ascending is put_in left) listed
+
       pub listed_cut : (old : R) (items : List (K × I)) → more ≡ cut ids rows i → items ≡ without order index (key old, i) → value_at ids rows i ≡ Some old
           → AreAscending order items → Lists cmp ids key more items
       listed_cut old items a b held ascends = rw (a, b) (lists_cut old held (subst (AreAscending order) b ascends))
 
       pub listed_kept : (old r : R) → more ≡ put ids rows i r → value_at ids rows i ≡ Some old → key r ≡ key old → Lists cmp ids key more index
       listed_kept old r a held same = rw a (lists_kept old r held same)
+
+-- As many items as rows refuse one more.
+pub refused_at : (n : ℕ) {a b : ℕ} (e : TryReserveError) → a ≡ n → b ≡ n → MayGrowRefuse a e ⊎ MayGrowRefuse b e → MayGrowRefuse n e
+refused_at n e i j (inl r) = subst (λ m. MayGrowRefuse m e) i r
+refused_at n e i j (inr r) = subst (λ m. MayGrowRefuse m e) j r
 
 -- A value that is put with the keys of a row is set.
 pub value_set : {I A B V : Type 0} (ids : I → I → Ordering) (id : I) (old value given : V) (rows before after : List (I × Keyed A B V))

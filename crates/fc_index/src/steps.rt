@@ -25,6 +25,7 @@ pub(crate) fn put_keys<I: Ord + Copy, A: Ord + Copy, B: Ord + Copy, H: Handle>(
     ensures seconds { OnOk result (items seconds.new ≡ with_item (key_then_id B.cmp I.cmp) (items seconds.old) (second, id)) }
     ensures new_first { IfOk result (λ new. IsTrue new.0 ↔ (item_at (key_then_id A.cmp I.cmp) (items firsts.old) (first, id) ≡ None)) }
     ensures new_second { IfOk result (λ new. IsTrue new.1 ↔ (item_at (key_then_id B.cmp I.cmp) (items seconds.old) (second, id) ≡ None)) }
+    ensures ascending { OnOk result (AreAscending (key_then_id A.cmp I.cmp) (items firsts.new) × AreAscending (key_then_id B.cmp I.cmp) (items seconds.new)) }
     ensures unchanged { OnErr result ((items firsts.new ≡ items firsts.old) × (items seconds.new ≡ items seconds.old)) }
     ensures error { IfErr result (λ e. MayGrowRefuse (length (items firsts.old)) e ⊎ MayGrowRefuse (length (items seconds.old)) e) }
 {

@@ -151,13 +151,7 @@ impl<I: Ord + Copy, A: Ord + Copy, B: Ord + Copy, V: Drop, H: Handle> Table<I, A
         ensures error { IfErr result (λ e. MayGrowRefuse (length self.old) e.1) }
         ensures ascending { OnOk result (IsAscending I.cmp self.new) }
     {
-        let new = match put_keys(
-            &mut self.firsts,
-            &mut self.seconds,
-            first,
-            second,
-            id,
-        ) {
+        let new = match put_keys(&mut self.firsts, &mut self.seconds, first, second, id) {
             Ok(new) => new,
             Err(error) => return Err((value, error)),
         };
