@@ -1,5 +1,6 @@
 -- An index lists the rows by their keys still, once a row was put or cut.
-use Rattle.std.proofs.Common.{◌≡◌, Bool, true, false, cond, List, [], ◌∷◌, ◌++◌, ℕ, ◌⊎◌, inl, inr, Option, Some, None, map, refl, sym, ap, ◌∙◌, subst, length, arith}
+use Rattle.std.proofs.Common.{◌≡◌, Bool, true, false, cond, List, [], ◌∷◌, ◌++◌, ℕ, ◌⊎◌, inl, inr, Option, Some, None, map}
+use Rattle.std.proofs.Common.{refl, sym, ap, ◌∙◌, subst, length, arith}
 use Rattle.std.specs.Prelude.{not, ◌&&◌, ◌||◌, ◌↔◌, is_some, unwrap_or, option_to_list, IsSome, IsTrue, ⊤, ◌+◌}
 use Rattle.std.specs.List.{AllByRecursion}
 use Rattle.std.specs.Option.{option_map}
