@@ -10,7 +10,7 @@ use Rattle.fc_base.specs.Parts.{value_at}
 use Rattle.fc_base.proofs.AscendingFacts.{all_map}
 use Rattle.fc_set.specs.Items.{item_at}
 use Rattle.fc_index.specs.Rows.{key_then_id, has_key, AreByKey}
-use Rattle.fc_index.proofs.Listed.{order_total}
+use Rattle.fc_index.proofs.Listed.{key_order_total}
 
 both_true : (a b : Bool) → (a && b) ≡ true → (a ≡ true) × (b ≡ true)
 both_true true true e = (refl, refl)
@@ -32,7 +32,7 @@ module _ {K I R : Type 0} (cmp : K → K → Ordering) (ids : I → I → Orderi
   -- Each item of the walk has a key that is chosen, and is of the row at its id.
   pub each_by_key : AllByRecursion (λ x. (chosen x.0 ≡ true) × (has_key cmp key (value_at ids rows x.1) x.0 ≡ true)) walk
   each_by_key = all_map _ _ (λ x found. both_true (chosen x.0) _ (sym (by_key.exact x.0 x.1) ∙ found)) walk
-      (each_found (key_then_id cmp ids) (order_total cmp ids key total totals) walk)
+      (each_found (key_then_id cmp ids) (key_order_total cmp ids total totals) walk)
 
   -- Each row whose key is chosen has an item in the walk.
   pub all_by_key : (i : I) (r : R) → value_at ids rows i ≡ Some r → chosen (key r) ≡ true → is_some (item_at (key_then_id cmp ids) walk (key r, i)) ≡ true

@@ -1,5 +1,5 @@
 -- A table as contracts see it: the list of its rows by their ids, and what lists them by a second key.
-use Rattle.std.specs.Prelude.{◌≡◌, ◌&&◌, Bool, false, List, Option, Some, None, is_some}
+use Rattle.std.specs.Prelude.{◌≡◌, ◌&&◌, Bool, false, List, Option, Some, None, is_some, length, cond}
 use Rattle.std.specs.Ordering.{is_eq, ordering_then}
 use Rattle.std.specs.declared.cmp.Ordering.{Ordering}
 use Rattle.std.specs.declared.ops.Bound.{Bound}
@@ -23,8 +23,11 @@ has_key cmp key None k = false
 has_key cmp key (Some r) k = is_eq (cmp k (key r))
 
 module _ {K I R : Type 0} (cmp : K → K → Ordering) (ids : I → I → Ordering) (key : R → K) where
-  -- The index lists exactly the rows: a key and an id stand in it where a row of that key is at the id, and nowhere else.
+  -- The index lists exactly the rows, in order: it has as many items as there are rows, and a key and an id stand in it where a row of that key is at the id,
+  -- and nowhere else.
   pub record Lists (rows : List (I × R)) (index : List (K × I)) : Type 0 where
+    pub ascending : AreAscending (key_then_id cmp ids) index
+    pub many : length index ≡ length rows
     pub exact : (k : K) (i : I) → is_some (item_at (key_then_id cmp ids) index (k, i)) ≡ has_key cmp key (value_at ids rows i) k
 
   -- The walk has exactly the rows whose keys are chosen, each once, as its key and its id, in the order of the keys, and of the ids where keys are equal.
@@ -32,10 +35,10 @@ module _ {K I R : Type 0} (cmp : K → K → Ordering) (ids : I → I → Orderi
     pub ascending : AreAscending (key_then_id cmp ids) walk
     pub exact : (k : K) (i : I) → is_some (item_at (key_then_id cmp ids) walk (k, i)) ≡ (chosen k && has_key cmp key (value_at ids rows i) k)
 
--- The index without the item of an old key and an id, if there is an old key.
-abbrev pub without_old : {K I : Type 0} → (K → K → Ordering) → (I → I → Ordering) → List (K × I) → Option K → I → List (K × I)
-without_old cmp ids index None id = index
-without_old cmp ids index (Some old) id = without (key_then_id cmp ids) index (old, id)
+-- The index without the item of an old key and an id, if there is an old key, and it is not equal to the new one.
+abbrev pub without_old : {K I : Type 0} → (K → K → Ordering) → (I → I → Ordering) → List (K × I) → Option K → K → I → List (K × I)
+without_old cmp ids index None new id = index
+without_old cmp ids index (Some old) new id = cond (is_eq (cmp old new)) index (without (key_then_id cmp ids) index (old, id))
 
 -- The row at an id, which has its keys still, has another value in the place of an old one.
 pub record IsValueSet {I A B V : Type 0} (ids : I → I → Ordering) (id : I) (old value : V) (before after : List (I × Keyed A B V)) : Type 0 where

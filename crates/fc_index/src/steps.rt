@@ -1,71 +1,78 @@
-//! The steps of an insertion: nodes for all three trees, and an item of an index that gives way to another.
-ghost use Rattle.std.specs.Prelude.{◌≡◌, ◌+◌, ◌<◌, length, IfOk};
+//! The steps of an insertion into both indexes: items that are put in, taken back where the row is refused, and gone with a row that is replaced.
+ghost use Rattle.std.specs.Prelude.{◌≡◌, ◌↔◌, ◌⊎◌, cond, length, IsTrue, IfOk, IfErr, OnOk, OnErr, None};
 ghost use Rattle.std.specs.Option.{option_map};
-ghost use Rattle.fc_map.specs.Entries.{entries};
-ghost use Rattle.fc_set.specs.Items.{items, with_item};
+ghost use Rattle.fc_base.specs.Growth.{MayGrowRefuse};
+ghost use Rattle.fc_set.specs.Items.{items, item_at, with_item, without, AreAscending};
 ghost use Rattle.fc_index.specs.Rows.{key_then_id, without_old};
 
 use crate::keyed::Keyed;
 use fc_base::{Handle, TryReserveError};
-use fc_map::map::{BTreeMap, Reservation};
 use fc_set::set::BTreeSet;
 
-/// Nodes for one insertion into an index.
-pub(crate) type KeyNodes<K, I, H> = Reservation<(K, I), (), H>;
-
-/// Nodes for one insertion into a map of rows and into both its indexes.
+/// Puts the items of a row's keys into the indexes, and answers which of them are new.
 ///
 /// # Errors
-/// Where a request for memory was refused, or a tree has as many items as it can count. What was taken is then given back.
-pub(crate) fn try_reserve<I: Ord + Drop, A: Ord + Drop, B: Ord + Drop, V: Drop, H: Handle>(
-    rows: &BTreeMap<I, Keyed<A, B, V>, H>,
-    firsts: &BTreeSet<(A, I), H>,
-    seconds: &BTreeSet<(B, I), H>,
-) -> Result<
-    (
-        Reservation<I, Keyed<A, B, V>, H>,
-        KeyNodes<A, I, H>,
-        KeyNodes<B, I, H>,
-    ),
-    TryReserveError,
->
-    ensures rows { IfOk result (λ r. (r.0.places ≡ 1) × (r.0.pairs ≡ length (entries rows.now) + 1)) }
-    ensures firsts { IfOk result (λ r. (r.1.places ≡ 1) × (r.1.pairs ≡ length (items firsts.now) + 1)) }
-    ensures seconds { IfOk result (λ r. (r.2.places ≡ 1) × (r.2.pairs ≡ length (items seconds.now) + 1)) }
+/// As `BTreeSet::try_insert`, into either. Both have then what they had.
+pub(crate) fn put_keys<I: Ord + Copy, A: Ord + Copy, B: Ord + Copy, H: Handle>(
+    firsts: &mut BTreeSet<(A, I), H>,
+    seconds: &mut BTreeSet<(B, I), H>,
+    first: A,
+    second: B,
+    id: I,
+) -> Result<(bool, bool), TryReserveError>
+    requires { AreAscending (key_then_id A.cmp I.cmp) (items firsts.old) }
+    ensures firsts { OnOk result (items firsts.new ≡ with_item (key_then_id A.cmp I.cmp) (items firsts.old) (first, id)) }
+    ensures seconds { OnOk result (items seconds.new ≡ with_item (key_then_id B.cmp I.cmp) (items seconds.old) (second, id)) }
+    ensures new_first { IfOk result (λ new. IsTrue new.0 ↔ (item_at (key_then_id A.cmp I.cmp) (items firsts.old) (first, id) ≡ None)) }
+    ensures new_second { IfOk result (λ new. IsTrue new.1 ↔ (item_at (key_then_id B.cmp I.cmp) (items seconds.old) (second, id) ≡ None)) }
+    ensures ascending { OnOk result (AreAscending (key_then_id A.cmp I.cmp) (items firsts.new) × AreAscending (key_then_id B.cmp I.cmp) (items seconds.new)) }
+    ensures unchanged { OnErr result ((items firsts.new ≡ items firsts.old) × (items seconds.new ≡ items seconds.old)) }
+    ensures error { IfErr result (λ e. MayGrowRefuse (length (items firsts.old)) e ⊎ MayGrowRefuse (length (items seconds.old)) e) }
 {
-    let row_nodes = rows.try_reserve_nodes(1)?;
-    let first_nodes = firsts.try_reserve_nodes(1)?;
-    let second_nodes = seconds.try_reserve_nodes(1)?;
-    Ok((row_nodes, first_nodes, second_nodes))
+    let is_new_first = match firsts.try_insert((first, id)) {
+        Ok(is_new) => is_new,
+        Err((_item, error)) => return Err(error),
+    };
+    match seconds.try_insert((second, id)) {
+        Ok(is_new_second) => Ok((is_new_first, is_new_second)),
+        Err((_item, error)) => {
+            take_back(firsts, first, id, is_new_first);
+            Err(error)
+        }
+    }
 }
 
-/// Takes the item of an old key and the id out, if there is an old key, and puts that of the new key in, by the nodes that were taken.
-pub(crate) fn exchange<K: Ord + Copy, I: Ord + Copy, H: Handle>(
+/// Takes the item of a key and an id out again, if it was new.
+pub(crate) fn take_back<K: Ord + Copy, I: Ord + Copy, H: Handle>(
     index: &mut BTreeSet<(K, I), H>,
-    nodes: &mut KeyNodes<K, I, H>,
+    key: K,
+    id: I,
+    is_new: bool,
+)
+    ensures { items index.new ≡ cond is_new (without (key_then_id K.cmp I.cmp) (items index.old) (key, id)) (items index.old) }
+{
+    if is_new {
+        index.remove(&(key, id));
+    }
+}
+
+/// Takes the item of an old key and the id out, if there is an old key, and it is not equal to the new one.
+pub(crate) fn take_out_old<K: Ord + Copy, I: Ord + Copy, H: Handle>(
+    index: &mut BTreeSet<(K, I), H>,
     old: Option<K>,
     new: K,
     id: I,
 )
-    requires place { 0 < nodes.old.places }
-    requires fits { length (items index.old) < nodes.old.pairs }
-    ensures { items index.new ≡ with_item (key_then_id K.cmp I.cmp) (without_old K.cmp I.cmp (items index.old) old id) (new, id) }
-{
-    take_out(index, old, id);
-    index.insert_reserved(nodes, (new, id));
-}
-
-// Takes the item of an old key and the id out, if there is an old key.
-fn take_out<K: Ord + Copy, I: Ord + Copy, H: Handle>(
-    index: &mut BTreeSet<(K, I), H>,
-    old: Option<K>,
-    id: I,
-)
-    ensures { items index.new ≡ without_old K.cmp I.cmp (items index.old) old id }
+    requires { AreAscending (key_then_id K.cmp I.cmp) (items index.old) }
+    ensures rest { items index.new ≡ without_old K.cmp I.cmp (items index.old) old new id }
+    ensures ascending { AreAscending (key_then_id K.cmp I.cmp) (items index.new) }
 {
     let Some(key) = old else {
         return;
     };
+    if key.cmp(&new).is_eq() {
+        return;
+    }
     index.remove(&(key, id));
 }
 

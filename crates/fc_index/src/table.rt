@@ -1,6 +1,7 @@
 //! The table: rows by their ids, and an index for each second key.
 ghost use Rattle.std.specs.Prelude.{◌≡◌, [], length, IfOk, IfErr, OnOk, OnErr, IsTrue, IsSome, None, ◌↔◌};
 ghost use Rattle.fc_base.specs.Ascending.{IsAscending};
+ghost use Rattle.fc_base.specs.Growth.{MayGrowRefuse};
 ghost use Rattle.fc_base.specs.OneKey.{put, cut};
 ghost use Rattle.fc_base.specs.Parts.{at, value_at};
 ghost use Rattle.fc_map.specs.Entries.{now_value};
@@ -8,7 +9,7 @@ ghost use Rattle.fc_index.specs.Rows.{AreByKey, IsValueSet, lies};
 
 use crate::edge::items_between;
 use crate::keyed::Keyed;
-use crate::steps::{exchange, first_of, second_of, try_reserve};
+use crate::steps::{first_of, put_keys, second_of, take_back, take_out_old};
 use fc_base::{Handle, TryReserveError};
 use fc_map::map::{BTreeMap, Iter};
 use fc_set::set::{BTreeSet, Range};
@@ -28,6 +29,7 @@ pub struct Table<I: Ord, A: Ord, B: Ord, V, H: Handle = Global> {
 
 impl<I: Ord, A: Ord, B: Ord, V, H: Handle> Model for Table<I, A, B, V, H> {
     ghost use Rattle.std.specs.Prelude.{List};
+    ghost use Rattle.fc_base.specs.Ascending.{IsAscending};
     ghost use Rattle.fc_map.specs.Entries.{entries};
     ghost use Rattle.fc_set.specs.Items.{items};
     ghost use Rattle.fc_index.specs.Rows.{Lists};
@@ -38,7 +40,7 @@ impl<I: Ord, A: Ord, B: Ord, V, H: Handle> Model for Table<I, A, B, V, H> {
     ghost view = { λ t. entries t.rows };
 
     ghost invariant = { λ t. Lists A.cmp I.cmp (λ r. r.first) (entries t.rows) (items t.firsts)
-        × Lists B.cmp I.cmp (λ r. r.second) (entries t.rows) (items t.seconds) };
+        × Lists B.cmp I.cmp (λ r. r.second) (entries t.rows) (items t.seconds) × IsAscending I.cmp (entries t.rows) };
 }
 
 impl<I: Ord, A: Ord, B: Ord, V, H: Handle> Table<I, A, B, V, H> {
@@ -133,8 +135,8 @@ impl<I: Ord + Copy, A: Ord + Copy, B: Ord + Copy, V: Drop, H: Handle> Table<I, A
     /// its second keys no more; else the answer is `Ok(None)`.
     ///
     /// # Errors
-    /// `AllocError` where a request for memory was refused, and `CapacityOverflow` where there are as many rows as can be counted. All
-    /// memory is taken before the first change, so the table is as it was, and the value comes back.
+    /// At a new id or key: `CapacityOverflow` where the table holds `usize::MAX` rows, and else `AllocError`, where a request for memory was
+    /// refused, which takes a table that is empty, or has rows enough to fill a leaf. The table is then as it was, and the value comes back.
     pub fn try_insert(
         &mut self,
         id: I,
@@ -146,33 +148,29 @@ impl<I: Ord + Copy, A: Ord + Copy, B: Ord + Copy, V: Drop, H: Handle> Table<I, A
         ensures put { OnOk result (self.new ≡ put I.cmp self.old id (record { first = first; second = second; value = value })) }
         ensures unchanged { OnErr result (self.new ≡ self.old) }
         ensures back { IfErr result (λ e. e.0 ≡ value) }
+        ensures error { IfErr result (λ e. MayGrowRefuse (length self.old) e.1) }
         ensures ascending { OnOk result (IsAscending I.cmp self.new) }
     {
-        match try_reserve(&self.rows, &self.firsts, &self.seconds) {
-            Ok((mut row_nodes, mut first_nodes, mut second_nodes)) => {
-                let row = Keyed {
-                    first,
-                    second,
-                    value,
-                };
-                let old = self.rows.insert_reserved(&mut row_nodes, id, row);
-                exchange(
-                    &mut self.firsts,
-                    &mut first_nodes,
-                    first_of(&old),
-                    first,
-                    id,
-                );
-                exchange(
-                    &mut self.seconds,
-                    &mut second_nodes,
-                    second_of(&old),
-                    second,
-                    id,
-                );
+        let new = match put_keys(&mut self.firsts, &mut self.seconds, first, second, id) {
+            Ok(new) => new,
+            Err(error) => return Err((value, error)),
+        };
+        let row = Keyed {
+            first,
+            second,
+            value,
+        };
+        match self.rows.try_insert(id, row) {
+            Ok(old) => {
+                take_out_old(&mut self.firsts, first_of(&old), first, id);
+                take_out_old(&mut self.seconds, second_of(&old), second, id);
                 Ok(old)
             }
-            Err(error) => Err((value, error)),
+            Err((_id, row, error)) => {
+                take_back(&mut self.firsts, first, id, new.0);
+                take_back(&mut self.seconds, second, id, new.1);
+                Err((row.value, error))
+            }
         }
     }
 

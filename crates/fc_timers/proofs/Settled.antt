@@ -77,7 +77,9 @@ module _ {T V : Type 0} (cmp : T → T → Ordering) (held : List (Option (Armed
   pub named_step : (changed k : ℕ) → k < length first → AreNamed held first changed → AreNamed held (set first k (first_from cmp held first k)) changed
   named_step changed k within a = record {
     named = λ j f e apart. elim (cases_eq j k) [
-      | inl here ↦ named_from changed k a f (sym (get_or-set_same first k _ None within) ∙ (λ i. get_or (set first k (first_from cmp held first k)) (sym here i) None) ∙ e) apart
+      | inl here ↦
+          let got = subst (λ i. get_or (set first k (first_from cmp held first k)) i None ≡ Some f) here e in
+          named_from changed k a f (sym (get_or-set_same first k _ None within) ∙ got) apart
       | inr other ↦ a.named j f (sym (get_or-set_other first k j _ None other) ∙ e) apart
     ];
   }

@@ -30,26 +30,27 @@ fn has_below<H: Handle>(table: &Boxes<H>, ids: u64) -> bool {
     firsts.next().is_none() && seconds.next().is_none() && table.len() as u64 == ids
 }
 
-// Puts rows in from id 0 on until one is refused, and tells how many went in, where the refused value came back and the table has the others.
-fn fill<H: Handle>(table: &mut Boxes<H>, alloc: Global, ids: u64) -> Option<u64> {
-    for id in 0..ids {
-        let Ok(value) = Owned::try_new(alloc, id) else {
-            return None;
-        };
-        if let Err((value, error)) = table.try_insert(id, id, id.wrapping_add(100), value) {
-            let is_back = value.number == id && error == TryReserveError::AllocError;
-            return if is_back && has_below(table, id) {
-                Some(id)
-            } else {
-                None
-            };
-        }
-    }
+// So many, where the table has just the rows below that id.
+fn if_has<H: Handle>(table: &Boxes<H>, ids: u64) -> Option<u64> {
     if has_below(table, ids) {
         Some(ids)
     } else {
         None
     }
+}
+
+// Puts rows in from id 0 on until one, or its value, is refused, and tells how many went in, where the refused value came back and the table has the others.
+fn fill<H: Handle>(table: &mut Boxes<H>, alloc: Global, ids: u64) -> Option<u64> {
+    for id in 0..ids {
+        let Ok(value) = Owned::try_new(alloc, id) else {
+            return if_has(table, id);
+        };
+        if let Err((value, error)) = table.try_insert(id, id, id.wrapping_add(100), value) {
+            let is_back = value.number == id && error == TryReserveError::AllocError;
+            return if is_back { if_has(table, id) } else { None };
+        }
+    }
+    if_has(table, ids)
 }
 
 // The budget's bytes run out in the middle of a table: more of them, more rows.
@@ -69,6 +70,13 @@ fn a_row_that_a_budget_refuses_leaves_the_table(rt: HostRuntime) {
         assert!(rt; budget.used() == 0);
     }
     assert!(rt; 0 < last);
+}
+
+// The 16th row splits the leaf of each tree: where the second or third of them is refused, the keys that came in go again.
+#[test]
+fn a_row_that_full_leaves_refuse_changes_nothing(rt: HostRuntime) {
+    let mut table = Boxes::new(rt.alloc());
+    assert!(rt; fill(&mut table, rt.alloc(), 16).is_some());
 }
 
 // The sweep refuses each request in turn: of the values, and of the nodes of all three trees.
