@@ -1,3 +1,4 @@
+pub mod Counted
 pub mod Edged
 pub mod Laws
 pub mod Listed

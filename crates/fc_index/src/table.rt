@@ -1,6 +1,7 @@
 //! The table: rows by their ids, and an index for each second key.
-ghost use Rattle.std.specs.Prelude.{◌≡◌, [], length, IfOk, IfErr, OnOk, OnErr, IsTrue, IsSome, None, ◌↔◌};
+ghost use Rattle.std.specs.Prelude.{◌≡◌, [], length, IsErr, IfOk, IfErr, OnOk, OnErr, IsTrue, IsSome, None, ◌↔◌};
 ghost use Rattle.fc_base.specs.Ascending.{IsAscending};
+ghost use Rattle.fc_base.specs.Growth.{growth_error};
 ghost use Rattle.fc_base.specs.OneKey.{put, cut};
 ghost use Rattle.fc_base.specs.Parts.{at, value_at};
 ghost use Rattle.fc_map.specs.Entries.{now_value};
@@ -133,8 +134,8 @@ impl<I: Ord + Copy, A: Ord + Copy, B: Ord + Copy, V: Drop, H: Handle> Table<I, A
     /// its second keys no more; else the answer is `Ok(None)`.
     ///
     /// # Errors
-    /// `AllocError` where a request for memory was refused, and `CapacityOverflow` where there are as many rows as can be counted. All
-    /// memory is taken before the first change, so the table is as it was, and the value comes back.
+    /// `CapacityOverflow` where there are as many rows as can be counted, and then always; else `AllocError`, where a request for memory
+    /// was refused. All memory is taken before the first change, so the table is as it was, and the value comes back.
     pub fn try_insert(
         &mut self,
         id: I,
@@ -146,6 +147,8 @@ impl<I: Ord + Copy, A: Ord + Copy, B: Ord + Copy, V: Drop, H: Handle> Table<I, A
         ensures put { OnOk result (self.new ≡ put I.cmp self.old id (record { first = first; second = second; value = value })) }
         ensures unchanged { OnErr result (self.new ≡ self.old) }
         ensures back { IfErr result (λ e. e.0 ≡ value) }
+        ensures error { IfErr result (λ e. e.1 ≡ growth_error (length self.old)) }
+        ensures full { length self.old ≡ usize.MAX → IsErr result }
         ensures ascending { OnOk result (IsAscending I.cmp self.new) }
     {
         match try_reserve(&self.rows, &self.firsts, &self.seconds) {
