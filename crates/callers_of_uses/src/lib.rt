@@ -2,4 +2,5 @@
 #![tactic(auto)]
 
 pub mod cache;
+pub mod index;
 pub mod timers;

@@ -1,5 +1,6 @@
 -- A list of stretches in which what goes on behind a point starts there too, and what a call on a range makes of it.
-use Rattle.std.proofs.Common.{◌≡◌, Bool, true, false, cond, List, ◌∷◌, ◌++◌, Option, Some, None, refl, sym, ap, ◌∙◌, subst, append-nil}
+use Rattle.std.proofs.Common.{◌≡◌, ◌+◌, Bool, true, false, cond, List, ◌∷◌, ◌++◌, length, Option, Some, None}
+use Rattle.std.proofs.Common.{refl, sym, ap, ◌∙◌, subst, inl, inr, append-nil, length-append, arith}
 use Rattle.std.specs.Prelude.{◌&&◌, not, map, unwrap_or}
 use Rattle.std.specs.List.{filter}
 use Rattle.std.specs.Option.{option_map}
@@ -9,6 +10,8 @@ use Rattle.std.specs.declared.cmp.Ordering.{Ordering}
 use Rattle.std.specs.declared.cmp.Ordering.TheVariants.{Less, Equal, Greater}
 use Rattle.std.specs.declared.ops.Bound.TheVariants.{Included, Excluded}
 use Rattle.std.proofs.lemmas.List.Elements.{filter-append}
+use Rattle.fc_base.specs.declared.try_reserve_error.TryReserveError.{TryReserveError}
+use Rattle.fc_base.specs.Growth.{MayGrowRefuse}
 use Rattle.fc_base.specs.Halves.{not_below}
 use Rattle.fc_base.specs.OneKey.{put, cut}
 use Rattle.fc_base.specs.Parts.{at, below, above}
@@ -17,6 +20,7 @@ use Rattle.fc_base.proofs.Laws.{cut_put_new}
 use Rattle.fc_laws.proofs.NeighbourLaws.{below_put, not_below_put}
 use Rattle.fc_laws.specs.Words.{last_item}
 use Rattle.fc_map.specs.Ranged.{outside}
+use Rattle.fc_intervals.specs.Refusals.{MayRefusePut, MayRefuseRest}
 use Rattle.fc_intervals.specs.Steps.{ahead, ended, IsCut, IsParted, IsRest, starting}
 use Rattle.fc_intervals.specs.Stretches.{AreApart, IsWritten}
 use Rattle.fc_intervals.specs.declared.stretch.Stretch.{Stretch}
@@ -99,6 +103,25 @@ module _ {K V : Type 0} (cmp : K → K → Ordering) (o : IsTotalOrder cmp) (s :
         is = e ∙ put_rest h.0 r h.1 on;
         undone = ap (λ l. cut cmp l b) e ∙ cut_rest h.0 r h.1 on;
       }
+
+  -- What refuses what goes on there, and what a stretch more beside all that is there then.
+  module _ (may_refuse : V → TryReserveError → Type 0) (e : TryReserveError) where
+    pub rest_refused : MayRefuseRest cmp may_refuse s b (length s) e → MayRefusePut cmp may_refuse s b e
+    rest_refused (y, last, on, inl own) = inr (y, last, on, inl own)
+    rest_refused (y, last, on, inr more) = inl more
+
+    pub beside_refused : (rest : Option (Stretch K V)) → IsRest cmp same s b rest → (t : List (K × Stretch K V))
+        → t ≡ below cmp s b ++ (starting b rest ++ not_below cmp s b) → MayGrowRefuse (length t) e → MayRefusePut cmp may_refuse s b e
+    beside_refused None h t is more = inl (subst (λ n. MayGrowRefuse n e) (ap length (is ∙ halves cmp o s apart b)) more)
+    beside_refused (Some r) h t is more =
+        let one : length t ≡ length s + 1 = omega (
+          arith,
+          ap length is,
+          ap length (halves cmp o s apart b),
+          length-append (below cmp s b) ((b, r) ∷ not_below cmp s b),
+          length-append (below cmp s b) (not_below cmp s b),
+        ) in
+        inr (h.0, h.1, h.2, inr (subst (λ n. MayGrowRefuse n e) one more))
 
   module _ (rest : Option (Stretch K V)) (is_rest : IsRest cmp same s b rest) where
     abbrev back : List (K × Stretch K V)

@@ -1,3 +1,4 @@
 pub mod Stretches
 pub mod Steps
 pub mod Joined
+pub mod Refusals

@@ -4,6 +4,7 @@ ghost use Rattle.std.specs.Ordering.{is_lt, is_le};
 ghost use Rattle.std.specs.declared.cmp.Ordering.TheVariants.{Less};
 ghost use Rattle.fc_map.specs.Entries.{now_value};
 ghost use Rattle.fc_intervals.specs.Joined.{IsJoined, NoneJoint};
+ghost use Rattle.fc_intervals.specs.Refusals.{MayRefusePut, MayRefuseRest};
 ghost use Rattle.fc_intervals.specs.Steps.{IsCut};
 ghost use Rattle.fc_intervals.specs.Stretches.{AreApart, AreGaps, IsKept, IsLookUp, IsWritten, now_stretch, overlapping, stretch_at, value_at_point};
 
@@ -181,6 +182,7 @@ impl<K: Ord + Copy + Drop, V: TryClone, A: Handle> IntervalMap<K, V, A> {
         ensures empty { is_lt (K.cmp range.start range.end) ≡ false → IsOk result × (self.new ≡ self.old) }
         ensures unchanged { OnErr result (self.new ≡ self.old) }
         ensures back { IfErr result (λ e. e.0 ≡ value) }
+        ensures error { IfErr result (λ e. MayRefusePut K.cmp V.may_refuse self.old range.end e.1) }
     {
         if range.start.cmp(&range.end).is_lt() {
             self.put_over(range.start, range.end, value)
@@ -196,6 +198,7 @@ impl<K: Ord + Copy + Drop, V: TryClone, A: Handle> IntervalMap<K, V, A> {
         ensures written { OnOk result (IsWritten K.cmp V.same start end (Some value) self.old self.new) }
         ensures unchanged { OnErr result (self.new ≡ self.old) }
         ensures back { IfErr result (λ e. e.0 ≡ value) }
+        ensures error { IfErr result (λ e. MayRefusePut K.cmp V.may_refuse self.old end e.1) }
     {
         steps::put(&mut self.map, start, Stretch { end, value })
     }
@@ -212,6 +215,7 @@ impl<K: Ord + Copy + Drop, V: TryClone, A: Handle> IntervalMap<K, V, A> {
         ensures written { OnOk result (IsWritten K.cmp V.same range.start range.end None self.old self.new) }
         ensures empty { is_lt (K.cmp range.start range.end) ≡ false → IsOk result × (self.new ≡ self.old) }
         ensures unchanged { OnErr result (self.new ≡ self.old) }
+        ensures error { IfErr result (MayRefuseRest K.cmp V.may_refuse self.old range.end (length self.old)) }
     {
         if range.start.cmp(&range.end).is_lt() {
             self.cut_over(range.start, range.end)
@@ -231,6 +235,7 @@ impl<K: Ord + Copy + Drop, V: TryClone, A: Handle> IntervalMap<K, V, A> {
         ensures split { OnOk result (IsCut K.cmp V.same at at self.old self.new) }
         ensures values { OnOk result ((p : K) → IsKept V.same (value_at_point K.cmp self.old p) (value_at_point K.cmp self.new p)) }
         ensures unchanged { OnErr result (self.new ≡ self.old) }
+        ensures error { IfErr result (MayRefuseRest K.cmp V.may_refuse self.old at (length self.old)) }
     {
         self.cut_over(at, at)
     }
@@ -242,6 +247,7 @@ impl<K: Ord + Copy + Drop, V: TryClone, A: Handle> IntervalMap<K, V, A> {
         ensures cut { OnOk result (IsCut K.cmp V.same start end self.old self.new) }
         ensures written { OnOk result (IsWritten K.cmp V.same start end None self.old self.new) }
         ensures unchanged { OnErr result (self.new ≡ self.old) }
+        ensures error { IfErr result (MayRefuseRest K.cmp V.may_refuse self.old end (length self.old)) }
     {
         steps::clear(&mut self.map, start, end)
     }

@@ -1,4 +1,4 @@
-use Rattle.std.proofs.Common.{subst}
+use Rattle.std.proofs.Common.{inr, subst}
 use Rattle.fc_map.specs.Entries.{entries}
 use Rattle.fc_intervals.specs.Steps.{IsRest}
 use Rattle.fc_intervals.proofs.Parted.{is_parted, not_parted}
@@ -8,10 +8,15 @@ pub returns-in_default-clause-parted : goal.returns-in_default-clause-parted
 returns-in_default-clause-parted g c =
     let s = entries c.args.map.now in
     not_parted g.K.Ord.cmp g.met.K.Ord.total s c.requires.apart g.V.TryClone.same c.args.at
-    (subst (IsRest g.K.Ord.cmp g.V.TryClone.same s c.args.at) c.in_default.is c.in_ok-rest.ensures)
+    (subst (IsRest g.K.Ord.cmp g.V.TryClone.same s c.args.at) c.in_default.is c.in_ok-rest.ensures.rest)
+
+pub returns-in-Err-clause-error : goal.returns-in-Err-clause-error
+returns-in-Err-clause-error g c =
+    let rest = subst (IsRest g.K.Ord.cmp g.V.TryClone.same (entries c.args.map.now) c.args.at) c.in-Some.is c.in_ok-rest.ensures.rest in
+    (rest.0, rest.1, rest.2, inr c.in-Err.ensures.error)
 
 pub returns-clause-parted : goal.returns-clause-parted
 returns-clause-parted g c =
     let s = entries c.args.map.now in
     is_parted g.K.Ord.cmp g.met.K.Ord.total s c.requires.apart g.V.TryClone.same c.args.at c.in-Some.rest
-    (subst (IsRest g.K.Ord.cmp g.V.TryClone.same s c.args.at) c.in-Some.is c.in_ok-rest.ensures) (entries c.put_in.new.map) c.in_default-put_in.ensures.put
+    (subst (IsRest g.K.Ord.cmp g.V.TryClone.same s c.args.at) c.in-Some.is c.in_ok-rest.ensures.rest) (entries c.put_in.new.map) c.in_default-put_in.ensures.put

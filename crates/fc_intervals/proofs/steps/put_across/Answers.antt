@@ -1,8 +1,8 @@
 use Rattle.std.proofs.Common.{ap}
 use Rattle.std.specs.Ordering.{is_le}
-use Rattle.std.proofs.lemmas.Result.{on_ok_weaker}
+use Rattle.std.proofs.lemmas.Result.{on_ok_weaker, IfErr-weaker}
 use Rattle.fc_map.specs.Entries.{entries}
-use Rattle.fc_intervals.proofs.Parted.{front_parted, put_parted}
+use Rattle.fc_intervals.proofs.Parted.{beside_refused, front_parted, put_parted, rest_refused}
 use Rattle.fc_intervals.proofs.steps.put_across.Goals as goal
 
 pub put_parted-requires : goal.put_parted-requires
@@ -26,3 +26,14 @@ returns-in-Ok-clause-written g c =
     (put_parted g.K.Ord.cmp g.met.K.Ord.total (entries c.args.map.now) c.requires.apart g.V.TryClone.same c.args.stretch.end parted.rest
     parted.is_rest c.args.from c.requires.range c.args.stretch.value (entries c.part.new.map) (entries c.put_parted.new.map) parted.is e).1)
     c.put_parted.ensures.put
+
+pub returns-in-Ok-clause-error : goal.returns-in-Ok-clause-error
+returns-in-Ok-clause-error g c =
+    let parted = c.in-Ok.ensures.parted in
+    IfErr-weaker c.put_parted.result _ _ (λ e. beside_refused g.K.Ord.cmp g.met.K.Ord.total (entries c.args.map.now) c.requires.apart g.V.TryClone.same
+    c.args.stretch.end g.V.TryClone.may_refuse e.1 parted.rest parted.is_rest (entries c.part.new.map) parted.is) c.put_parted.ensures.error
+
+pub returns-in-Err-clause-error : goal.returns-in-Err-clause-error
+returns-in-Err-clause-error g c =
+    rest_refused g.K.Ord.cmp g.met.K.Ord.total (entries c.args.map.now) c.requires.apart g.V.TryClone.same c.args.stretch.end g.V.TryClone.may_refuse _
+    c.in-Err.ensures.error
