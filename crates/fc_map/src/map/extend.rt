@@ -7,7 +7,7 @@ ghost use Rattle.fc_vec.specs.Items.{GivesAll, GivesFirst};
 ghost use Rattle.fc_map.specs.Entries.{entries, IsSoundMap};
 
 use super::BTreeMap;
-use super::bulk_insert::BulkInsert;
+use super::bulk_load::BulkLoad;
 use fc_base::{Handle, TryReserveError};
 use fc_vec::TryFromIterator;
 use std::alloc::Global;
@@ -30,18 +30,19 @@ impl<K: Ord + Drop, V: Drop, A: Handle> BTreeMap<K, V, A> {
         ensures ascending { IsAscending K.cmp (entries self.new) }
         ensures sound { IsSoundMap self.new }
     {
-        let mut bulk_insert = BulkInsert::over(self);
+        let mut load = BulkLoad::over(self);
         for (key, value) in items {
-            match bulk_insert.try_put(key, value) {
+            match load.try_put(key, value) {
                 Ok(()) => (),
                 Err(error) => {
-                    *self = bulk_insert.finish();
+                    *self = load.finish();
                     return Err(error);
                 }
             }
         }
-        *self = bulk_insert.finish();
-        Ok(())
+        let done = load.flush();
+        *self = load.finish();
+        done
     }
 }
 

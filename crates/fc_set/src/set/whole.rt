@@ -10,7 +10,7 @@ ghost use Rattle.fc_set.specs.Items.{items, smaller, not_smaller, AreAscending, 
 
 use super::BTreeSet;
 use fc_base::{Count, Handle, Query, TryClone, TryReserveError};
-use fc_map::map::bulk_insert::BulkInsert;
+use fc_map::map::bulk_load::BulkLoad;
 use fc_vec::TryFromIterator;
 use std::alloc::Global;
 
@@ -92,18 +92,19 @@ impl<T: Ord + Drop, A: Handle> BTreeSet<T, A> {
         ensures ascending { AreAscending T.cmp (items self.new) }
         ensures sound { IsSoundMap self.new }
     {
-        let mut bulk_insert = BulkInsert::over(&mut self.map);
+        let mut load = BulkLoad::over(&mut self.map);
         for item in given {
-            match bulk_insert.try_put(item, ()) {
+            match load.try_put(item, ()) {
                 Ok(()) => (),
                 Err(error) => {
-                    self.map = bulk_insert.finish();
+                    self.map = load.finish();
                     return Err(error);
                 }
             }
         }
-        self.map = bulk_insert.finish();
-        Ok(())
+        let done = load.flush();
+        self.map = load.finish();
+        done
     }
 }
 
