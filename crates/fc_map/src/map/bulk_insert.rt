@@ -98,7 +98,7 @@ impl<K: Ord + Drop, V: Drop, A: Handle> BulkInsert<K, V, A> {
         ensures merged { IfOk result (λ _. self.new ≡ extended K.cmp self.old items.items) }
         ensures unchanged { IfErr result (λ back. (self.new ≡ self.old) × (back.items ≡ items.items)) }
     {
-        if self.map.is_empty() {
+        if self.map.len() == 0 {
             return Err(items);
         }
         self.map.merge(items)

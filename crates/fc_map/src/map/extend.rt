@@ -15,7 +15,9 @@ use std::alloc::Global;
 impl<K: Ord + Drop, V: Drop, A: Handle> BTreeMap<K, V, A> {
     /// Puts all items that the iterator gives into the map, in turn, each as `try_insert` does: where an equal key is there, that
     /// key stays and the new value takes the place of the old one, which is dropped. An item after all before it, those of the map too,
-    /// takes one comparison, as long as each before it did. Upstream: `BTreeMap::extend`, which panics where this call answers an error.
+    /// takes one comparison, as long as each before it did. Once many came out of order, items are gathered, sorted and merged with the pairs: that asks for
+    /// room for all of them and for all nodes at once; where that is refused, they go in one by one. Upstream: `BTreeMap::extend`, which panics where this call
+    /// answers an error.
     ///
     /// # Errors
     /// At the first item that `try_insert` refuses, whose key is new, with that error. The items before it stay in the map. It is

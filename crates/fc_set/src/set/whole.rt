@@ -80,7 +80,8 @@ impl<T: Ord + Drop, A: Handle> BTreeSet<T, A> {
     }
 
     /// Puts all items that the iterator gives into the set, in turn, each as `try_insert` does: an equal item that is there stays. An item
-    /// after all before it, those of the set too, takes one comparison, as long as each before it did. Upstream: `BTreeSet::extend`, which panics where this call answers an error.
+    /// after all before it, those of the set too, takes one comparison, as long as each before it did. Once many came out of order, items are gathered, sorted and
+    /// merged with those of the set, as `BTreeMap::try_extend` does it. Upstream: `BTreeSet::extend`, which panics where this call answers an error.
     ///
     /// # Errors
     /// At the first item that `try_insert` refuses, which is new, with that error. The items before it stay in the set. It is dropped,
