@@ -48,16 +48,6 @@ module _ {K V : Type 0} where
   held_length None back = omega arith
   held_length (Some p) back = omega arith
 
-module _ {K V : Type 0} (cmp : K → K → Ordering) where
-  more : (s items : List (K × V)) (e : K × V) → put cmp (extended cmp s items) e.0 e.1 ≡ extended cmp s (items ++ e ∷ [])
-  more s [] e = refl
-  more s (i ∷ items) e = more (put cmp s i.0 i.1) items e
-
-  -- One more item is put into what those before it made.
-  pub extended_more : (s items old new : List (K × V)) (k : K) (v : V) → old ≡ extended cmp s items → new ≡ put cmp old k v
-      → new ≡ extended cmp s (items ++ (k, v) ∷ [])
-  extended_more s items old new k v e f = f ∙ ap (λ l. put cmp l k v) e ∙ more s items (k, v)
-
 -- What a test tells of an order.
 pub equal_if : (o : Ordering) (b : Bool) → b ≡ is_eq o → IsTrue b → o ≡ Equal
 equal_if Less b e h = absurd (let no = sym e ∙ h in cc)

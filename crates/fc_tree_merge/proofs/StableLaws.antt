@@ -1,6 +1,6 @@
 -- Laws of items that are put in, in turn: those of each key count alone, and so does their order. No other ascending list has the same pair at each key.
 -- A caller names one on a function, as `#[tactic(auto, using(fc_laws::proofs::Laws::extended_stable))]`, or cites it in an answer.
-use Rattle.std.proofs.Common.{◌≡◌, Bool, true, false, not, cond, List, [], ◌∷◌, Option, Some, None, refl, sym, ap, ◌∙◌}
+use Rattle.std.proofs.Common.{◌≡◌, Bool, true, false, not, cond, List, [], ◌∷◌, ◌++◌, Option, Some, None, refl, sym, ap, ◌∙◌}
 use Rattle.std.specs.Prelude.{unwrap_or, ◌&&◌}
 use Rattle.std.specs.List.{AllByRecursion, filter}
 use Rattle.std.specs.List.Sorted.{ties, IsStableByKey}
@@ -72,6 +72,15 @@ module _ {K V : Type 0} (cmp : K → K → Ordering) where
       heads Greater i more =
           let f : at cmp (y ∷ t) x.0 ≡ None = rw i (none x.0 y t (ap is_lt i) b.0) in
           absurd (let h : Some x ≡ None = sym (at_head x s total) ∙ same x.0 ∙ f in cc)
+
+  more : (s items : List (K × V)) (e : K × V) → put cmp (extended cmp s items) e.0 e.1 ≡ extended cmp s (items ++ e ∷ [])
+  more s [] e = refl
+  more s (i ∷ items) e = more (put cmp s i.0 i.1) items e
+
+  -- One more item is put into what those before it made.
+  pub extended_more : (s items old new : List (K × V)) (k : K) (v : V) → old ≡ extended cmp s items → new ≡ put cmp old k v
+      → new ≡ extended cmp s (items ++ (k, v) ∷ [])
+  extended_more s items old new k v e f = f ∙ ap (λ l. put cmp l k v) e ∙ more s items (k, v)
 
   -- A list that ascends does so with all items put in.
   pub ascending_extended : (s items : List (K × V)) → IsTotalOrder cmp → IsAscending cmp s → IsAscending cmp (extended cmp s items)

@@ -144,9 +144,11 @@ fn gather<K: Ord + Drop, V: Drop, A: Handle>(
         Ok(()) => (),
         Err(back) => {
             *single = usize::MAX;
-            put_gathered(placed, gathered)?;
             let (key, value) = back.value;
-            return placed.try_put(key, value);
+            return match put_gathered(placed, gathered) {
+                Ok(()) => placed.try_put(key, value),
+                Err(error) => Err(error),
+            };
         }
     }
     let len = gathered.len();

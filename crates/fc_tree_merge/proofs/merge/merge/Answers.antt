@@ -1,4 +1,5 @@
 use Rattle.std.proofs.Common.{◌≡◌, [], ◌∷◌, ◌++◌, length, rules, sym, ap, subst, ◌∙◌, arith, length-append, append-nil}
+use Rattle.std.proofs.lemmas.List.{nil_from_length}
 use denote.Param.{param}
 use Rattle.std.specs.Vec.Iter.{into_iter_items}
 use Rattle.fc_base.specs.Ascending.{IsAscending}
@@ -7,8 +8,7 @@ use Rattle.fc_tree_node.specs.Tree.{entries}
 use Rattle.fc_tree_merge.specs.Rising.{with_held, IsRising}
 use Rattle.fc_tree_drain.proofs.Sizes.{front_fits}
 use Rattle.fc_tree_build.proofs.StackSizes.{items_fit, builder_fits}
-use Rattle.fc_tree_merge.proofs.MergedFacts.{extended_more}
-use Rattle.fc_tree_merge.proofs.StableLaws.{ascending_extended}
+use Rattle.fc_tree_merge.proofs.StableLaws.{ascending_extended, extended_more}
 use Rattle.fc_tree_merge.proofs.MergedFacts.{ahead_first, ahead_next, moved_on, held_back, held_front, held_length}
 use Rattle.fc_tree_merge.proofs.merge.merge.Goals as goal
 
@@ -86,7 +86,9 @@ array_drop-pairs-inside-requires g c = items_fit (param 0 g.row.K) (param 1 g.ro
 
 pub returns-clause-pairs : goal.returns-clause-pairs
 returns-clause-pairs g c =
-    let done : c.args.items.items ≡ c.loop-key.yielded = search rules in
+    let left = into_iter_items c.loop-key.key-iterator in
+    let none : length left ≡ 0 = search rules in
+    let done = c.loop-key.invariant.all ∙ ap (λ l. c.loop-key.yielded ++ l) (nil_from_length left none) ∙ append-nil c.loop-key.yielded in
     c.finish.ensures.pairs ∙ c.push_all.ensures.pairs ∙ ap (λ z. z ++ c.loop-key.pairs) c.put_held.ensures.pairs
     ∙ held_back c.loop-key.builder.pairs c.loop-key.held c.loop-key.pairs ∙ c.loop-key.invariant.made
     ∙ ap (λ z. extended g.K.Ord.cmp (entries c.args.root) z) (sym done)

@@ -18,24 +18,24 @@ pass-requires g c =
       ),
     )
 
-pub next-requires : goal.next-requires
-next-requires g c =
+pub next-own-requires : goal.next-own-requires
+next-own-requires g c =
     let n = ap length c.if-pass.ensures.stopped.2 in
     (front_fits (param 0 g.row.K) (param 1 g.row.V) g.row.A g.A.Allocator g.met.A.Handle.small, omega arith)
 
 pub returns-then-pass-clause-put : goal.returns-then-pass-clause-put
 returns-then-pass-clause-put g c =
-    put_at_next g.K.Ord.cmp g.met.K.Ord.total _ c.pass.new.builder.pairs c.pass.new.pairs c.next.new.self c.next.result c.args.key c.args.value
-    c.requires.order c.if-pass.ensures.pairs c.if-pass.ensures.ahead c.if-pass.ensures.stopped c.next.ensures
+    put_at_next g.K.Ord.cmp g.met.K.Ord.total _ c.pass.new.builder.pairs c.pass.new.pairs c.next-own.new.self c.next-own.result c.args.key c.args.value
+    c.requires.order c.if-pass.ensures.pairs c.if-pass.ensures.ahead c.if-pass.ensures.stopped c.next-own.ensures
 
 pub returns-then-pass-clause-same : goal.returns-then-pass-clause-same
 returns-then-pass-clause-same g c =
     let stopped = c.if-pass.ensures.stopped in
-    ap (λ z. g.K.Ord.cmp z.0 c.args.key) (head_of _ _ _ _ (sym c.next.ensures ∙ stopped.2)) ∙ stopped.3
+    ap (λ z. g.K.Ord.cmp z.0 c.args.key) (head_of _ _ _ _ (sym c.next-own.ensures ∙ stopped.2)) ∙ stopped.3
 
 pub returns-then-pass-clause-room : goal.returns-then-pass-clause-room
 returns-then-pass-clause-room g c =
-    let next = ap length c.next.ensures in
+    let next = ap length c.next-own.ensures in
     let filled = c.if-pass.ensures.filled in
     let both = sym (length-append c.pass.new.builder.pairs c.pass.new.pairs) ∙ ap length c.if-pass.ensures.pairs
     ∙ length-append c.args.builder.now.pairs c.args.pairs.now in
