@@ -30,13 +30,15 @@ module _ {K V : Type 0} (cmp : K → K → Ordering) where
   one_loaded old items mid item new is none put_in =
       all_loaded old (items ++ item ∷ []) new none (extended_more cmp old items mid new.placed item.0 item.1 is put_in)
 
-  module _ (r : Result (Unit {0}) TryReserveError) (old items mid : List (K × V)) (item given : K × V) (is : mid ≡ extended cmp old items) (same : given ≡ item) where
+  module _ (r : Result (Unit {0}) TryReserveError) (old items mid : List (K × V)) (item given : K × V) (is : mid ≡ extended cmp old items)
+      (same : given ≡ item) where
     -- What a call that puts one in answers,
     pub one_if_ok : (new : Loading K V) → new.gathered ≡ [] → IfOk r (λ _. new.placed ≡ put cmp mid given.0 given.1)
         → OnOk r (IsLoaded cmp old (items ++ item ∷ []) new)
     one_if_ok new none h = go r h
       where
-        go : (r : Result (Unit {0}) TryReserveError) → IfOk r (λ _. new.placed ≡ put cmp mid given.0 given.1) → OnOk r (IsLoaded cmp old (items ++ item ∷ []) new)
+        go : (r : Result (Unit {0}) TryReserveError) → IfOk r (λ _. new.placed ≡ put cmp mid given.0 given.1)
+            → OnOk r (IsLoaded cmp old (items ++ item ∷ []) new)
         go (Ok x) h = one_loaded old items mid item new is none (h ∙ ap (λ i. put cmp mid i.0 i.1) same)
         go (Err e) h = h
 
@@ -53,7 +55,8 @@ module _ {K V : Type 0} (cmp : K → K → Ordering) where
 
   -- One of those before an item was refused.
   pub refused_before : (old items done new : List (K × V)) (item : K × V) (e : TryReserveError) → done ≡ items
-      → ((rest : List (K × V)) → IsExtendedUpTo cmp old (done ++ rest) new e) → (rest : List (K × V)) → IsExtendedUpTo cmp old ((items ++ item ∷ []) ++ rest) new e
+      → ((rest : List (K × V)) → IsExtendedUpTo cmp old (done ++ rest) new e) → (rest : List (K × V))
+      → IsExtendedUpTo cmp old ((items ++ item ∷ []) ++ rest) new e
   refused_before old items done new item e same h rest =
       subst (λ l. IsExtendedUpTo cmp old l new e) (ap (λ l. l ++ item ∷ rest) same ∙ sym (append_assoc items (item ∷ []) rest)) (h (item ∷ rest))
 

@@ -1,5 +1,6 @@
 -- A list of pairs merged with items whose keys rise.
-use Rattle.std.proofs.Common.{◌≡◌, ℕ, suc, ◌+◌, ◌<◌, ◌≤◌, Bool, true, false, cond, List, [], ◌∷◌, ◌++◌, Option, Some, None, length, get_or, refl, sym, ap, subst, ◌∙◌, arith}
+use Rattle.std.proofs.Common.{◌≡◌, ℕ, suc, ◌+◌, Bool, true, false, cond, List, [], ◌∷◌, ◌++◌, Option, Some, None, length, get_or}
+use Rattle.std.proofs.Common.{refl, sym, ap, subst, ◌∙◌, arith}
 use Rattle.std.proofs.Common.{append_assoc, append-nil, length-append}
 use native.Mathlib.Numerals.{unary_clauses}
 use Rattle.std.specs.Prelude.{Result, Ok, Err, is_ok, IsTrue, OnOk}
@@ -12,7 +13,6 @@ use Rattle.std.specs.Ordering.{is_lt, is_eq, is_gt, ordering_reverse}
 use Rattle.std.specs.declared.cmp.Ordering.{Ordering}
 use Rattle.std.specs.declared.cmp.Ordering.TheVariants.{Less, Equal, Greater}
 use Rattle.fc_base.specs.Ascending.{IsAscending}
-use Rattle.fc_base.specs.Extended.{extended}
 use Rattle.fc_base.specs.OneKey.{put}
 use Rattle.fc_base.specs.Parts.{below, above, at}
 use Rattle.fc_base.specs.Viewed.{over_one}
@@ -21,7 +21,6 @@ use Rattle.fc_base.proofs.AscendingFacts.{kept, left_out}
 use Rattle.fc_base.proofs.Laws.{smaller_ahead, ascending_back}
 use Rattle.fc_tree_node.proofs.Lists.{all_both}
 use Rattle.fc_tree_merge.specs.Rising.{IsHeldAfter, IsNotBelow, IsRising, IsStoppedAt, with_held}
-use Rattle.fc_tree_merge.proofs.StableLaws.{ascending_extended}
 
 -- What holds where a call was done, which was told.
 pub told_ok : {X E : Type 0} {P : Type 0} (r : Result X E) (b : Bool) → b ≡ is_ok r → IsTrue b → OnOk r P → P

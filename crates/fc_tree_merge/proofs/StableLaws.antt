@@ -1,6 +1,6 @@
 -- Laws of items that are put in, in turn: those of each key count alone, and so does their order. No other ascending list has the same pair at each key.
 -- A caller names one on a function, as `#[tactic(auto, using(fc_laws::proofs::Laws::extended_stable))]`, or cites it in an answer.
-use Rattle.std.proofs.Common.{◌≡◌, Bool, true, false, not, cond, List, [], ◌∷◌, ◌++◌, Option, Some, None, refl, sym, ap, ◌∙◌}
+use Rattle.std.proofs.Common.{◌≡◌, false, not, cond, List, [], ◌∷◌, ◌++◌, Some, None, refl, sym, ap, ◌∙◌}
 use Rattle.std.specs.Prelude.{unwrap_or, ◌&&◌}
 use Rattle.std.specs.List.{AllByRecursion, filter}
 use Rattle.std.specs.List.Sorted.{ties, IsStableByKey}

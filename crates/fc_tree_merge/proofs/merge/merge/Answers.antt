@@ -1,11 +1,11 @@
-use Rattle.std.proofs.Common.{◌≡◌, [], ◌∷◌, ◌++◌, length, rules, sym, ap, subst, ◌∙◌, arith, length-append, append-nil}
+use Rattle.std.proofs.Common.{◌≡◌, [], ◌++◌, length, rules, sym, ap, subst, ◌∙◌, arith, append-nil}
 use Rattle.std.proofs.lemmas.List.{nil_from_length}
 use denote.Param.{param}
 use Rattle.std.specs.Vec.Iter.{into_iter_items}
 use Rattle.fc_base.specs.Ascending.{IsAscending}
 use Rattle.fc_base.specs.Extended.{extended}
 use Rattle.fc_tree_node.specs.Tree.{entries}
-use Rattle.fc_tree_merge.specs.Rising.{with_held, IsRising}
+use Rattle.fc_tree_merge.specs.Rising.{IsRising}
 use Rattle.fc_tree_drain.proofs.Sizes.{front_fits}
 use Rattle.fc_tree_build.proofs.StackSizes.{items_fit, builder_fits}
 use Rattle.fc_tree_merge.proofs.StableLaws.{ascending_extended, extended_more}
@@ -35,7 +35,6 @@ step-requires g c =
     let done = c.loop-key.invariant in
     let next = c.in-Some.ensures.steps.0 in
     let left = ap length next in
-    let room = done.room in
     let order = subst (IsAscending g.K.Ord.cmp) (sym done.made)
     (ascending_extended g.K.Ord.cmp (entries c.args.root) c.loop-key.yielded g.met.K.Ord.total c.requires.order) in (
       builder_fits (param 0 g.row.K) (param 1 g.row.V) g.row.A g.A.Allocator g.met.A.Handle.small,
@@ -53,7 +52,6 @@ loop-key-preserved g c =
     let done = c.loop-key.invariant in
     let next = c.in-Some.ensures.steps.0 in
     let left = ap length next in
-    let old = done.room in
     let step = c.step.ensures in
     let room = step.room in
     record {
@@ -67,16 +65,13 @@ loop-key-preserved g c =
 
 pub put_held-requires : goal.put_held-requires
 put_held-requires g c =
-    let room = c.loop-key.invariant.room in
     let all = held_length c.loop-key.held c.loop-key.pairs in
     (builder_fits (param 0 g.row.K) (param 1 g.row.V) g.row.A g.A.Allocator g.met.A.Handle.small, omega arith)
 
 pub push_all-requires : goal.push_all-requires
 push_all-requires g c =
-    let room = c.loop-key.invariant.room in
     let all = held_length c.loop-key.held c.loop-key.pairs in
-    let put = ap length c.put_held.ensures.pairs ∙ held_front c.loop-key.builder.pairs c.loop-key.held [] in
-    let filled = c.put_held.ensures.filled in (
+    let put = ap length c.put_held.ensures.pairs ∙ held_front c.loop-key.builder.pairs c.loop-key.held [] in (
       front_fits (param 0 g.row.K) (param 1 g.row.V) g.row.A g.A.Allocator g.met.A.Handle.small,
       (builder_fits (param 0 g.row.K) (param 1 g.row.V) g.row.A g.A.Allocator g.met.A.Handle.small, omega arith),
     )
@@ -95,9 +90,5 @@ returns-clause-pairs g c =
 
 pub returns-clause-len : goal.returns-clause-len
 returns-clause-len g c =
-    let left = c.room.ensures in
     let all = ap length c.finish.ensures.pairs in
-    let i = c.loop-key.invariant.filled in
-    let held = c.put_held.ensures.filled in
-    let rest = c.push_all.ensures.filled in
     omega arith

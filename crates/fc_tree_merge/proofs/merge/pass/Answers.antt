@@ -13,28 +13,26 @@ use Rattle.fc_tree_merge.proofs.MergedFacts.{all_greater, head_of}
 use Rattle.fc_tree_merge.proofs.merge.pass.Goals as goal
 
 pub first-requires : goal.first-requires
-first-requires g c =
-    let some = some_left _ c.loop-pairs.pairs c.is_empty.ensures c.loop-pairs-test.true in
-    (front_fits (param 0 g.row.K) (param 1 g.row.V) g.row.A g.A.Allocator g.met.A.Handle.small, some)
+first-requires g c = (
+  front_fits (param 0 g.row.K) (param 1 g.row.V) g.row.A g.A.Allocator g.met.A.Handle.small,
+  some_left _ c.loop-pairs.pairs c.is_empty.ensures c.loop-pairs-test.true,
+)
 
 pub next-requires : goal.next-requires
-next-requires g c =
-    let some = some_left _ c.loop-pairs.pairs c.is_empty.ensures c.loop-pairs-test.true in
-    (front_fits (param 0 g.row.K) (param 1 g.row.V) g.row.A g.A.Allocator g.met.A.Handle.small, some)
+next-requires g c = (
+  front_fits (param 0 g.row.K) (param 1 g.row.V) g.row.A g.A.Allocator g.met.A.Handle.small,
+  some_left _ c.loop-pairs.pairs c.is_empty.ensures c.loop-pairs-test.true,
+)
 
 pub push-requires : goal.push-requires
 push-requires g c =
     let some = some_left _ c.loop-pairs.pairs c.is_empty.ensures c.loop-pairs-test.true in
-    let room = c.loop-pairs.invariant.2 in
     (builder_fits (param 0 g.row.K) (param 1 g.row.V) g.row.A g.A.Allocator g.met.A.Handle.small, omega arith)
 
 pub loop-pairs-preserved : goal.loop-pairs-preserved
 loop-pairs-preserved g c =
     let i = c.loop-pairs.invariant in
-    let room = i.2 in
-    let filled = i.4 in
     let e = ap length c.next.ensures in
-    let p = c.push.ensures.room in
     let n = ap length c.push.ensures.pairs ∙ length-append c.loop-pairs.builder.pairs _ in
     let head = head_of _ _ _ _ (sym c.first.ensures.1 ∙ c.next.ensures) in
     let less = ap (λ z. g.K.Ord.cmp z.0 c.args.key.now) (sym head) ∙ sym c.cmp.ensures ∙ c.in-Less.is in

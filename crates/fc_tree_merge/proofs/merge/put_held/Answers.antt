@@ -7,7 +7,6 @@ use Rattle.fc_tree_merge.proofs.merge.put_held.Goals as goal
 pub push-requires : goal.push-requires
 push-requires g c =
     let n = ap (λ h. length (with_held [] h [])) c.in-Some.is in
-    let room = c.requires in
     (builder_fits (param 0 g.row.K) (param 1 g.row.V) g.row.A g.A.Allocator g.met.A.Handle.small, omega arith)
 
 pub returns-in-None-clause-pairs : goal.returns-in-None-clause-pairs
@@ -20,5 +19,4 @@ returns-in-Some-clause-pairs g c = c.push.ensures.pairs ∙ ap (λ h. with_held 
 pub returns-in-Some-clause-filled : goal.returns-in-Some-clause-filled
 returns-in-Some-clause-filled g c =
     let n = ap length c.push.ensures.pairs ∙ length-append c.args.builder.now.pairs (c.in-Some.pair ∷ []) in
-    let more = c.push.ensures.room in
     omega arith

@@ -1,4 +1,4 @@
-use Rattle.std.proofs.Common.{◌≡◌, ◌∷◌, [], ◌++◌, length, sym, ap, subst, refl, ◌∙◌, arith, append_assoc, length-append}
+use Rattle.std.proofs.Common.{◌≡◌, ◌∷◌, [], ◌++◌, length, sym, ap, subst, ◌∙◌, arith, append_assoc, length-append}
 use denote.Param.{param}
 use Rattle.std.specs.List.{AllByRecursion}
 use Rattle.std.specs.Ordering.{is_gt}
@@ -14,8 +14,7 @@ use Rattle.fc_tree_merge.proofs.merge.step.Goals as goal
 pub step_over-requires : goal.step_over-requires
 step_over-requires g c =
     let none = subst (λ h. IsHeldAfter g.K.Ord.cmp c.args.builder.now.pairs h c.args.key) c.in-None.is c.requires.held in
-    let n = ap (λ h. length (with_held [] h c.args.pairs.now)) c.in-None.is in
-    let room = c.requires.room in (
+    let n = ap (λ h. length (with_held [] h c.args.pairs.now)) c.in-None.is in (
       builder_fits (param 0 g.row.K) (param 1 g.row.V) g.row.A g.A.Allocator g.met.A.Handle.small,
       (
         front_fits (param 0 g.row.K) (param 1 g.row.V) g.row.A g.A.Allocator g.met.A.Handle.small,
@@ -34,7 +33,6 @@ returns-in-None-clause-put g c =
 pub returns-in-None-clause-room : goal.returns-in-None-clause-room
 returns-in-None-clause-room g c =
     let n = ap (λ h. length (with_held [] h c.args.pairs.now)) c.in-None.is in
-    let room = c.step_over.ensures.room in
     omega arith
 
 pub returns-then-is_eq-clause-put : goal.returns-then-is_eq-clause-put
@@ -53,7 +51,6 @@ returns-then-is_eq-clause-room g c = let n = ap (λ h. length (with_held [] h c.
 pub push-requires : goal.push-requires
 push-requires g c =
     let n = ap (λ h. length (with_held [] h c.args.pairs.now)) c.in-Some.is in
-    let room = c.requires.room in
     (builder_fits (param 0 g.row.K) (param 1 g.row.V) g.row.A g.A.Allocator g.met.A.Handle.small, omega arith)
 
 pub step_over-requires-in-Some : goal.step_over-requires-in-Some
@@ -61,8 +58,6 @@ step_over-requires-in-Some g c =
     let front = c.args.builder.now.pairs in
     let back = c.args.pairs.now in
     let n = ap (λ h. length (with_held [] h back)) c.in-Some.is in
-    let room = c.requires.room in
-    let more = c.push.ensures.room in
     let order = subst (λ h. IsAscending g.K.Ord.cmp (with_held front h back)) c.in-Some.is c.requires.order in
     let first = subst (λ h. IsHeldAfter g.K.Ord.cmp front h c.args.key) c.in-Some.is c.requires.held in
     let less = sym c.cmp.ensures ∙ less_left _ _ c.is_eq.ensures c.if-is_eq.false (ap is_gt c.cmp.ensures ∙ first) in (
@@ -91,13 +86,9 @@ returns-else-is_eq-clause-put g c =
 pub returns-else-is_eq-clause-room : goal.returns-else-is_eq-clause-room
 returns-else-is_eq-clause-room g c =
     let n = ap (λ h. length (with_held [] h c.args.pairs.now)) c.in-Some.is in
-    let more = c.push.ensures.room in
-    let room = c.step_over-in-Some.ensures.room in
     omega arith
 
 pub returns-else-is_eq-clause-filled : goal.returns-else-is_eq-clause-filled
 returns-else-is_eq-clause-filled g c =
     let n = ap length c.push.ensures.pairs ∙ length-append c.args.builder.now.pairs (c.in-Some.pair ∷ []) in
-    let more = c.push.ensures.room in
-    let filled = c.step_over-in-Some.ensures.filled in
     omega arith

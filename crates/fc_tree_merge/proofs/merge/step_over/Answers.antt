@@ -1,4 +1,4 @@
-use Rattle.std.proofs.Common.{length, sym, ap, refl, ◌∙◌, arith, length-append}
+use Rattle.std.proofs.Common.{length, sym, ap, ◌∙◌, arith, length-append}
 use denote.Param.{param}
 use Rattle.std.proofs.lemmas.Cmp.{tied_itself}
 use Rattle.fc_base.proofs.Laws.{ascending_back}
@@ -9,8 +9,7 @@ use Rattle.fc_tree_merge.proofs.merge.step_over.Goals as goal
 
 pub pass-requires : goal.pass-requires
 pass-requires g c =
-    let order = ascending_back g.K.Ord.cmp c.args.builder.now.pairs c.args.pairs.now c.requires.order in
-    let room = c.requires.room in (
+    let order = ascending_back g.K.Ord.cmp c.args.builder.now.pairs c.args.pairs.now c.requires.order in (
       builder_fits (param 0 g.row.K) (param 1 g.row.V) g.row.A g.A.Allocator g.met.A.Handle.small,
       (
         front_fits (param 0 g.row.K) (param 1 g.row.V) g.row.A g.A.Allocator g.met.A.Handle.small,
@@ -36,7 +35,6 @@ returns-then-pass-clause-same g c =
 pub returns-then-pass-clause-room : goal.returns-then-pass-clause-room
 returns-then-pass-clause-room g c =
     let next = ap length c.next-own.ensures in
-    let filled = c.if-pass.ensures.filled in
     let both = sym (length-append c.pass.new.builder.pairs c.pass.new.pairs) ∙ ap length c.if-pass.ensures.pairs
     ∙ length-append c.args.builder.now.pairs c.args.pairs.now in
     omega arith
@@ -51,7 +49,6 @@ returns-clause-same g c = tied_itself g.met.K.Ord.total c.args.key
 
 pub returns-clause-room : goal.returns-clause-room
 returns-clause-room g c =
-    let filled = c.if-pass.ensures.filled in
     let both = sym (length-append c.pass.new.builder.pairs c.pass.new.pairs) ∙ ap length c.if-pass.ensures.pairs
     ∙ length-append c.args.builder.now.pairs c.args.pairs.now in
     omega arith

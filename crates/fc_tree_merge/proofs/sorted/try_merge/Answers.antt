@@ -1,4 +1,4 @@
-use Rattle.std.proofs.Common.{◌++◌, length, refl, sym, ap, subst, ◌∙◌, arith}
+use Rattle.std.proofs.Common.{length, refl, sym, ap, subst, arith}
 use denote.Param.{param}
 use Rattle.fc_base.specs.Ascending.{IsAscending}
 use Rattle.fc_tree_node.specs.Tree.{entries, IsSoundMap}
@@ -18,7 +18,7 @@ merge-tree-requires g c =
         subst (λ r. IsSoundMap r) (sym root) c.requires.sound,
         (
           subst (λ r. IsAscending g.K.Ord.cmp (entries r)) (sym root) c.requires.order,
-          (c.if-not-sort.ensures.rising refl, (c.in-Ok.ensures.ok.0, omega (arith, tree, c.requires.len, c.len.ensures, c.in-Some.ensures, c.in-Ok.ensures.ok.1, c.sort.ensures.length, c.args.items.ok))),
+          (c.if-not-sort.ensures.rising refl, (c.in-Ok.ensures.ok.0, omega (arith, c.in-Ok.ensures.ok.1, c.in-Some.ensures))),
         ),
       ),
     )
@@ -26,4 +26,5 @@ merge-tree-requires g c =
 pub returns-clause-order : goal.returns-clause-order
 returns-clause-order g c =
     let order = subst (λ r. IsAscending g.K.Ord.cmp (entries r)) (sym c.take.ensures.value) c.requires.order in
-    subst (IsAscending g.K.Ord.cmp) (sym c.merge-tree.ensures.pairs) (ascending_extended g.K.Ord.cmp (entries c.take.result) c.sort.new.items.items g.met.K.Ord.total order)
+    let all = ascending_extended g.K.Ord.cmp (entries c.take.result) c.sort.new.items.items g.met.K.Ord.total order in
+    subst (IsAscending g.K.Ord.cmp) (sym c.merge-tree.ensures.pairs) all
