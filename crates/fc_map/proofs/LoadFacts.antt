@@ -11,6 +11,15 @@ use Rattle.fc_tree_merge.proofs.StableLaws.{extended_more}
 use Rattle.fc_map.specs.BulkLoad.{Loading, IsLoaded}
 use Rattle.fc_map.proofs.ExtendFacts.{up_to}
 
+-- What a call's answer tells, told otherwise.
+pub on_ok : {X E P Q : Type 0} (r : Result X E) → (P → Q) → OnOk r P → OnOk r Q
+on_ok (Ok x) f p = f p
+on_ok (Err e) f p = p
+
+pub on_err : {X E : Type 0} (P Q : E → Type 0) (r : Result X E) → ((e : E) → P e → Q e) → IfErr r P → IfErr r Q
+on_err P Q (Ok x) f p = p
+on_err P Q (Err e) f p = f e p
+
 module _ {K V : Type 0} (cmp : K → K → Ordering) where
   extended_both : (s front back : List (K × V)) → extended cmp (extended cmp s front) back ≡ extended cmp s (front ++ back)
   extended_both s [] back = refl
@@ -100,3 +109,11 @@ module _ {K V : Type 0} (cmp : K → K → Ordering) where
       new_key = s.new_key;
       error = s.error;
     }
+
+    -- The same at an item that comes next.
+    pub stopped_after : (item : K × V) (new : List (K × V)) (e : TryReserveError)
+        → ((rest : List (K × V)) → IsExtendedUpTo cmp mid.placed ((mid.gathered ++ item ∷ []) ++ rest) new e)
+        → (rest : List (K × V)) → IsExtendedUpTo cmp old ((items ++ item ∷ []) ++ rest) new e
+    stopped_after item new e s rest =
+        subst (λ l. IsExtendedUpTo cmp old l new e) (sym (append_assoc items (item ∷ []) rest))
+        (stopped_at (item ∷ rest) new e (subst (λ l. IsExtendedUpTo cmp mid.placed l new e) (append_assoc mid.gathered (item ∷ []) rest) (s rest)))
