@@ -1,6 +1,7 @@
-use Rattle.std.proofs.Common.{◌∷◌, [], ◌++◌, sym, ap, subst, ◌∙◌, append_assoc}
+use Rattle.std.proofs.Common.{◌≡◌, ◌∷◌, [], ◌++◌, length, rules, sym, ap, subst, ◌∙◌, append_assoc, append-nil}
+use Rattle.std.proofs.lemmas.List.{nil_from_length}
 use Rattle.std.specs.Vec.Iter.{into_iter_items}
-use Rattle.fc_base.specs.Extended.{IsExtendedUpTo}
+use Rattle.fc_base.specs.Extended.{extended, IsExtendedUpTo}
 use Rattle.fc_tree_merge.proofs.MergedFacts.{moved_on}
 use Rattle.fc_tree_merge.proofs.StableLaws.{extended_more}
 use Rattle.fc_map.proofs.ExtendFacts.{up_to}
@@ -28,3 +29,10 @@ returns-in-Err-clause-error g c rest =
     subst (λ m. IsExtendedUpTo cmp old (c.args.items.items ++ rest) m c.in-Err.error) (sym refusal.unchanged)
     (subst (λ l. IsExtendedUpTo cmp old l c.loop-key.placed c.in-Err.error)
     (sym (ap (λ l. l ++ rest) all ∙ append_assoc (c.loop-key.yielded ++ item ∷ []) left rest)) upto)
+
+pub returns-clause-all : goal.returns-clause-all
+returns-clause-all g c =
+    let left = into_iter_items c.loop-key.key-iterator in
+    let none : length left ≡ 0 = search rules in
+    let done = c.loop-key.invariant.all ∙ ap (λ l. c.loop-key.yielded ++ l) (nil_from_length left none) ∙ append-nil c.loop-key.yielded in
+    c.loop-key.invariant.made ∙ ap (extended g.K.Ord.cmp c.args.placed.now) (sym done)
