@@ -10,7 +10,7 @@ mod append;
 mod beside;
 mod both;
 mod bounds;
-pub mod bulk_insert;
+mod bulk_insert;
 pub mod bulk_load;
 mod clones;
 mod compare;

@@ -128,7 +128,7 @@ fn put_singly<K: Ord + Drop, V: Drop, A: Handle>(
 }
 
 // Gathers the item, and puts those gathered in where they are many. Where there is no room for it, they are put in, and from then on each item by itself.
-#[cold]
+#[inline(never)]
 fn gather<K: Ord + Drop, V: Drop, A: Handle>(
     placed: &mut BulkInsert<K, V, A>,
     gathered: &mut Vec<(K, V), A>,

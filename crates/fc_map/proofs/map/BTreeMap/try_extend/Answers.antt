@@ -1,4 +1,4 @@
-use Rattle.std.proofs.Common.{◌∷◌, ◌++◌, [], rules, sym, ap, subst, ◌∙◌, append_assoc}
+use Rattle.std.proofs.Common.{◌∷◌, ◌++◌, [], rules, sym, subst, ◌∙◌}
 use denote.Param.{param}
 use Rattle.fc_base.specs.Extended.{IsExtendedUpTo}
 use Rattle.fc_map.specs.Entries.{entries}

@@ -9,13 +9,16 @@ use Rattle.fc_map.proofs.map.bulk_load.BulkLoad.try_put.Given as given
 use Rattle.fc_map.proofs.map.bulk_load.BulkLoad.try_put.Goals as goal
 
 pub gather-requires : goal.gather-requires
-gather-requires g c = (bulk_insert_fits (param 0 g.row.K) (param 1 g.row.V) g.row.A g.K.Ord g.K.PartialEq g.K.PartialOrd g.A.Allocator g.met.A.Handle.small, c.if-self-eq0.true)
+gather-requires g c =
+    (bulk_insert_fits (param 0 g.row.K) (param 1 g.row.V) g.row.A g.K.Ord g.K.PartialEq g.K.PartialOrd g.A.Allocator g.met.A.Handle.small, c.if-self-eq0.true)
 
 pub put_if_behind-requires : goal.put_if_behind-requires
-put_if_behind-requires g c = bulk_insert_fits (param 0 g.row.K) (param 1 g.row.V) g.row.A g.K.Ord g.K.PartialEq g.K.PartialOrd g.A.Allocator g.met.A.Handle.small
+put_if_behind-requires g c =
+    bulk_insert_fits (param 0 g.row.K) (param 1 g.row.V) g.row.A g.K.Ord g.K.PartialEq g.K.PartialOrd g.A.Allocator g.met.A.Handle.small
 
 pub put_singly-requires : goal.put_singly-requires
-put_singly-requires g c = (bulk_insert_fits (param 0 g.row.K) (param 1 g.row.V) g.row.A g.K.Ord g.K.PartialEq g.K.PartialOrd g.A.Allocator g.met.A.Handle.small, omega arith)
+put_singly-requires g c =
+    (bulk_insert_fits (param 0 g.row.K) (param 1 g.row.V) g.row.A g.K.Ord g.K.PartialEq g.K.PartialOrd g.A.Allocator g.met.A.Handle.small, omega arith)
 
 pub returns-then-self-eq0-clause-taken : goal.returns-then-self-eq0-clause-taken
 returns-then-self-eq0-clause-taken g c =
