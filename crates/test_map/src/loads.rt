@@ -1,4 +1,6 @@
 //! Maps that are extended by so many items in no order that most are gathered, where memory is refused.
+use crate::extend::{tracked_map, tracked_pairs};
+use crate::map::{Tracked, fresh_drops, were_all_dropped};
 use crate::numbers::{Numbers, has, multiples};
 use fc_base::TryReserveError;
 use std::alloc::{AllocError, Global};
@@ -6,6 +8,7 @@ use test_values::is_ample;
 
 // So many items, of each number two.
 const ITEMS: u64 = 3_000;
+
 const NUMBERS: u64 = 1_500;
 
 // The number of the item at the place, 37 apart and round.
@@ -92,4 +95,29 @@ fn a_refused_load_keeps_the_items_before(rt: HostRuntime) {
     let done = extend(&mut map, items);
     let count = front(&map);
     assert!(rt; is_told(done, count) && is_extended_by(&map, count));
+}
+
+// Whether a map has all 170 numbers, or the allocator refused.
+fn is_made(made: &Result<Tracked<'_>, TryReserveError>) -> bool {
+    match made {
+        Ok(map) => map.len() == 170,
+        Err(e) => matches!(e, TryReserveError::AllocError),
+    }
+}
+
+// Each request is refused in turn by the sweep. Most items have keys that are there.
+#[test]
+fn each_item_of_a_load_is_dropped_once(rt: HostRuntime) {
+    let Ok(drops) = fresh_drops(rt.alloc(), 1_500) else {
+        assert!(rt; !is_ample(rt.alloc()));
+        return;
+    };
+    {
+        let Ok(items) = tracked_pairs(rt.alloc(), &drops) else {
+            assert!(rt; !is_ample(rt.alloc()));
+            return;
+        };
+        assert!(rt; is_made(&tracked_map(rt.alloc(), items)));
+    }
+    assert!(rt; were_all_dropped(&drops, 1));
 }
