@@ -1,5 +1,5 @@
 -- A list of items extended by more, one after another, as the keys of pairs are.
-use Rattle.std.proofs.Common.{◌≡◌, List, [], ◌∷◌, ◌++◌, length, map, refl, sym, ap, subst, ◌∙◌}
+use Rattle.std.proofs.Common.{◌≡◌, List, [], ◌∷◌, ◌++◌, refl, sym, ap, subst, ◌∙◌}
 use Rattle.std.specs.declared.cmp.Ordering.{Ordering}
 use Rattle.fc_base.specs.declared.try_reserve_error.TryReserveError.{TryReserveError}
 use Rattle.fc_base.specs.Extended.{extended, IsExtendedUpTo}
@@ -18,7 +18,7 @@ module _ {T V : Type 0} where
   keys_more pairs items e is = keys_both pairs (e ∷ []) ∙ ap (λ l. l ++ e.0 ∷ []) is
 
   -- Each item with the one value there is.
-  pub paired : V → List T → List (T × V)
+  abbrev pub paired : V → List T → List (T × V)
   paired v [] = []
   paired v (x ∷ items) = (x, v) ∷ paired v items
 
