@@ -20,7 +20,8 @@ docs/GALLERY.md leads to each example, whose READMEs have the same headings. A f
 an excerpt leads to the page, or the source, that has the whole; tools/pasted.py proves what is whole as it stands. And it looks that what docs/PROMISES.md names behind each wrong body, and behind each call that takes
 memory, is there: an edit CRATE/edits/NAME or CRATE/must-fail/NAME, a test CRATE::NAME, a file lines/NAME or tools/NAME, or a text 'CRATE/FILE: TEXT'; and
 that it lists just those calls that take memory which are public: functions of the crates that `fallible_collections` hands on, and of those beside it, whose
-answer has an error of a refused request, under the name of their type or trait. At last it looks by tools/tested.py that each public call has a test."""
+answer has an error of a refused request, under the name of their type or trait. At last it looks by tools/tested.py that each public call has a test,
+and that no merge left its marks."""
 import functools
 import pathlib
 import re
@@ -398,6 +399,8 @@ def page(file):
             wrong.append(f"{file.relative_to(top)}: its table of {found[2]} is not that of the sources")
         return new
 
+    for line in re.findall(r"(?m)^(?:<{7}|={7}|>{7})(?: .*)?$", text):
+        wrong.append(f"{file.relative_to(top)}: a merge left the line '{line}'")
     for named in re.findall(r"\]\(([^)#:]+)[^):]*\)", text):
         if not (file.parent / named).exists():
             wrong.append(f"{file.relative_to(top)} leads to {named}, which is not there")

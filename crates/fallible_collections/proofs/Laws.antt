@@ -8,6 +8,7 @@ pub use Rattle.fc_base.proofs.Laws.{put_by_query, cut_query, within_all, within_
 pub use Rattle.fc_base.proofs.JoinedLaws.{halves_joined, placed_behind, joined_behind, joined_halves, ascending_joined}
 pub use Rattle.fc_set.proofs.OperationLaws.{lengths, in_common, difference_at_least, difference_at_most, common_at_most, union_at_least, union_at_most}
 pub use Rattle.fc_set.proofs.OperationLaws.{symmetric_at_most}
+pub use Rattle.fc_tree_merge.proofs.StableLaws.{same_pairs, ascending_extended, extended_stable}
 pub use Rattle.fc_map.proofs.VisitLaws.{visits_map, visited_whole}
 pub use Rattle.fc_laws.proofs.NeighbourLaws.{within_from, within_after, within_to, within_before, not_below_query, above_query, not_above_query, below_query}
 pub use Rattle.fc_laws.proofs.NeighbourLaws.{exact_pair, first_there, first_passes, first_least, first_none, last_there, last_passes, last_greatest, last_none}
@@ -17,7 +18,7 @@ pub use Rattle.fc_laws.proofs.NeighbourCallLaws.{first_at_or_after_there, first_
 pub use Rattle.fc_laws.proofs.NeighbourCallLaws.{last_at_or_before_side, last_before_there, last_before_side}
 pub use Rattle.fc_laws.proofs.PlaceLaws.{key_at, contains_at, at_contained, some_at, none_at, value_at_cut, value_before_put, value_before_cut}
 pub use Rattle.fc_laws.proofs.PlaceLaws.{length_put_at_most, length_written}
-pub use Rattle.fc_laws.proofs.JoinedLaws.{at_joined, value_at_joined, at_joined_query, value_at_joined_query, same_pairs, joined_is}
+pub use Rattle.fc_laws.proofs.JoinedLaws.{at_joined, value_at_joined, at_joined_query, value_at_joined_query, joined_is}
 pub use Rattle.fc_laws.proofs.PairLaws.{text_order_fits, filter_cut, filter_put_out, filter_put_kept, all_cut, all_put, sum_cut, sum_put, sum_put_new}
 pub use Rattle.fc_laws.proofs.PairLaws.{sum_values_cut, sum_values_cut_absent, sum_values_put, sum_values_put_new, at_cut_other_query, value_at_cut_other_query}
 pub use Rattle.fc_laws.proofs.PairLaws.{value_at_text_put, not_below_all, not_below_rest, at_first_pair}

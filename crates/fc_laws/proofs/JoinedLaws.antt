@@ -2,36 +2,25 @@
 -- A caller names one on a function, as `#[tactic(auto, using(fc_laws::proofs::Laws::value_at_joined))]`, or cites it in an answer.
 use Rattle.std.proofs.Common.{◌≡◌, false, cond, List, [], ◌∷◌, ◌++◌, Option, Some, None, refl, sym, ap, ◌∙◌}
 use Rattle.std.specs.Prelude.{unwrap_or}
-use Rattle.std.specs.List.{AllByRecursion}
 use Rattle.std.specs.Option.{option_map, option_or}
 use Rattle.std.specs.Cmp.{IsTotalOrder}
 use Rattle.std.specs.Ordering.{is_lt, is_eq, ordering_reverse}
 use Rattle.std.specs.declared.cmp.Ordering.{Ordering}
 use Rattle.std.specs.declared.cmp.Ordering.TheVariants.{Less, Equal, Greater}
-use Rattle.std.proofs.lemmas.Cmp.{tied_itself}
 use Rattle.std.proofs.lemmas.List.Folds.{find-append}
 use Rattle.fc_base.specs.Ascending.{IsAscending}
 use Rattle.fc_base.specs.Joined.{placed, joined}
 use Rattle.fc_base.specs.OneKey.{cut}
 use Rattle.fc_base.specs.Parts.{below, above, at, value_at}
 use Rattle.fc_base.specs.Query.{IsQueryOrder}
-use Rattle.fc_base.specs.Viewed.{over_one, own_order}
+use Rattle.fc_base.specs.Viewed.{own_order}
 use Rattle.fc_base.proofs.AscendingFacts.{at_key}
 use Rattle.fc_base.proofs.Laws.{at_query, at_put, at_put_other_query, at_cut}
 use Rattle.fc_base.proofs.JoinedLaws.{ascending_joined}
+use Rattle.fc_tree_merge.proofs.StableLaws.{none_behind, same_pairs}
 use Rattle.fc_laws.proofs.NeighbourLaws.{below_cut, above_cut}
 
 module _ {K Q V : Type 0} (cmp : K → K → Ordering) (order : K → Q → Ordering) (total : IsTotalOrder cmp) (fits : IsQueryOrder cmp order) (q : Q) where
-  -- nothing stands after a pair at a query that is not above it
-  none_behind : (e : K × V) (s : List (K × V)) → is_lt (order e.0 q) ≡ false → AllByRecursion (λ x. cmp e.0 x.0 ≡ Less) s → at order s q ≡ None
-  none_behind e [] h a = refl
-  none_behind e (x ∷ s) h a = rw (over (order e.0 q) refl h) (none_behind e s h a.1)
-    where
-      over : (r : Ordering) → order e.0 q ≡ r → is_lt r ≡ false → order x.0 q ≡ Greater
-      over Less i n = absurd cc
-      over Equal i n = fits.past q e.0 x.0 a.0 i
-      over Greater i n = fits.upper q e.0 x.0 a.0 i
-
   module _ (s : List (K × V)) (e : K × V) where
     -- a pair is placed as it is put where its key was cut, and stands there
     placed_there : order e.0 q ≡ Equal → at order (placed cmp s e) q ≡ Some e
@@ -89,39 +78,6 @@ module _ {K V : Type 0} (cmp : K → K → Ordering) where
   pub value_at_joined : (s t : List (K × V)) (k : K) → IsTotalOrder cmp → IsAscending cmp t
       → value_at cmp (joined cmp s t) k ≡ option_or (value_at cmp t k) (value_at cmp s k)
   value_at_joined s t k total a = value_at_joined_query cmp cmp s t k total (own_order total) a
-
-  at_head : (x : K × V) (s : List (K × V)) → IsTotalOrder cmp → at cmp (x ∷ s) x.0 ≡ Some x
-  at_head x s total = rw (tied_itself total x.0) refl
-
-  -- Two ascending lists with the same pair at each key are one list.
-  pub same_pairs : (s t : List (K × V)) → IsTotalOrder cmp → IsAscending cmp s → IsAscending cmp t → ((k : K) → at cmp s k ≡ at cmp t k) → s ≡ t
-  same_pairs [] [] total a b same = refl
-  same_pairs [] (y ∷ t) total a b same = absurd (let h : None ≡ Some y = same y.0 ∙ at_head y t total in cc)
-  same_pairs (x ∷ s) [] total a b same = absurd (let h : Some x ≡ None = sym (at_head x s total) ∙ same x.0 in cc)
-  same_pairs (x ∷ s) (y ∷ t) total a b same = heads (cmp y.0 x.0) refl (same_pairs s t total a.1 b.1)
-    where
-      none : (k : K) (e : K × V) (u : List (K × V)) → is_lt (cmp e.0 k) ≡ false → AllByRecursion (λ z. cmp e.0 z.0 ≡ Less) u → at cmp u k ≡ None
-      none k = none_behind cmp cmp total (own_order total) k
-
-      rest : (k : K) (r : Ordering) → cmp x.0 k ≡ r → x ≡ y → cond (is_eq r) (Some x) (at cmp s k) ≡ cond (is_eq r) (Some x) (at cmp t k)
-          → at cmp s k ≡ at cmp t k
-      rest k Less i e h = h
-      rest k Equal i e h = none k x s (ap is_lt i) a.0 ∙ sym (none k y t (ap (λ (z : K × V). is_lt (cmp z.0 k)) (sym e) ∙ ap is_lt i) b.0)
-      rest k Greater i e h = h
-
-      heads : (r : Ordering) → cmp y.0 x.0 ≡ r → (((k : K) → at cmp s k ≡ at cmp t k) → s ≡ t) → x ∷ s ≡ y ∷ t
-      heads Less i more =
-          let g = over_one cmp total y.0 x.0 i in
-          let f : at cmp (x ∷ s) y.0 ≡ None = rw g (none y.0 x s (ap is_lt g) a.0) in
-          absurd (let h : None ≡ Some y = sym f ∙ same y.0 ∙ at_head y t total in cc)
-      heads Equal i more =
-          let h : Some x ≡ Some y = sym (at_head x s total) ∙ same x.0 ∙ rw i refl in
-          let e : x ≡ y = cc in
-          let f = more (λ k. rest k (cmp x.0 k) refl e (same k ∙ ap (λ (z : K × V). at cmp (z ∷ t) k) (sym e))) in
-          λ j. e j ∷ f j
-      heads Greater i more =
-          let f : at cmp (y ∷ t) x.0 ≡ None = rw i (none x.0 y t (ap is_lt i) b.0) in
-          absurd (let h : Some x ≡ None = sym (at_head x s total) ∙ same x.0 ∙ f in cc)
 
   -- An ascending list that answers so at each key is the joined one.
   pub joined_is : (s t u : List (K × V)) → IsTotalOrder cmp → IsAscending cmp s → IsAscending cmp t → IsAscending cmp u

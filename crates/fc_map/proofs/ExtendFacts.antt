@@ -1,8 +1,9 @@
 -- A list extended by items, one after another.
 use Rattle.std.proofs.Common.{◌≡◌, List, [], ◌∷◌, ◌++◌, Some, None, cond, length, inl, inr, refl, sym, ap, subst, ◌∙◌, arith}
-use Rattle.std.proofs.Common.{append_assoc, append-nil, length-append, ℕ, ◌+◌, ◌-◌, ◌^◌, ◌≤◌, ◌⊎◌, Bool, false, IsTrue, Result, Ok, Err, ◌↔◌}
+use Rattle.std.proofs.Common.{append_assoc, append-nil, length-append, ℕ, ◌+◌, ◌-◌, ◌^◌, ◌≤◌, ◌⊎◌, Bool, false, IsTrue, Option, Result, Ok, Err, ◌↔◌}
 use Rattle.std.specs.Bool.{if◌then◌else◌}
 use Rattle.std.specs.Result.{IfOk, IfErr}
+use Rattle.std.specs.Prelude.{IfSome}
 use Rattle.std.proofs.lemmas.Bool.{iff_false, ne_eqb}
 use Rattle.std.specs.Prelude.{unwrap_or}
 use Rattle.std.specs.Option.{option_map}
@@ -27,15 +28,6 @@ use Rattle.fc_map.specs.Entries.{Map, entries}
 use Rattle.fc_map.specs.BulkInsert.{IsBulkInsert}
 
 module _ {K V : Type 0} (cmp : K → K → Ordering) where
-  more : (s items : List (K × V)) (e : K × V) → put cmp (extended cmp s items) e.0 e.1 ≡ extended cmp s (items ++ e ∷ [])
-  more s [] e = refl
-  more s (i ∷ items) e = more (put cmp s i.0 i.1) items e
-
-  -- One more item is put into what those before it made.
-  pub extended_more : (s items old new : List (K × V)) (k : K) (v : V) → old ≡ extended cmp s items → new ≡ put cmp old k v
-      → new ≡ extended cmp s (items ++ (k, v) ∷ [])
-  extended_more s items old new k v e f = f ∙ ap (λ l. put cmp l k v) e ∙ more s items (k, v)
-
   -- An item with a new key was refused, and what stands after it was not looked at.
   pub up_to : (s front new : List (K × V)) (item : K × V) (e : TryReserveError) → new ≡ extended cmp s front → at cmp new item.0 ≡ None
       → MayGrowRefuse (length new) e → (rest : List (K × V)) → IsExtendedUpTo cmp s ((front ++ item ∷ []) ++ rest) new e
@@ -97,6 +89,18 @@ module _ {K V : Type 0} (cmp : K → K → Ordering) where
         (ascending_behind t new k v total e all x.0, inr none),
       )
 
+  -- What a tree that may have taken the pair tells of both.
+  pub put_if_last : (r : Option (K × V)) (t new : Grown K V) (m : List (K × V)) (pair : K × V) → IsTotalOrder cmp → IsBulkInsert cmp t.pairs m
+      → (r ≡ None → IsBehindLast cmp t.pairs pair.0) → (r ≡ None → new.pairs ≡ t.pairs ++ pair ∷ []) → IfSome r (λ back. (back ≡ pair) × (new ≡ t))
+      → IsBulkInsert cmp new.pairs m × (r ≡ None → new.pairs ++ m ≡ put cmp (t.pairs ++ m) pair.0 pair.1)
+  put_if_last None t new m pair total x b e h = let all = put_last t.pairs m new.pairs pair.0 pair.1 total x (b refl) (e refl) in (all.1, λ _. all.0)
+  put_if_last (Some y) t new m pair total x b e h = (subst (λ g. IsBulkInsert cmp g.pairs m) (sym h.1) x, λ no. absurd cc)
+
+  -- A map that has a pair has all.
+  pub all_closed : (t m : List (K × V)) → IsBulkInsert cmp t m → (length m ≡ 0 → ⊥) → t ≡ []
+  all_closed t m (a, inl none) some = none
+  all_closed t m (a, inr none) some = absurd (some (ap length none))
+
   -- All pairs stand in the map once it has one,
   none_open : (t m : List (K × V)) (b : Bool) → IsBulkInsert cmp t m → b ≡ false → IsTrue b ↔ (m ≡ []) → t ≡ []
   none_open t m b (a, inl none) unset is = none
@@ -147,6 +151,24 @@ module _ {K V : Type 0} (cmp : K → K → Ordering) (r : Result (Unit {0}) TryR
 
   pub same_refusal : (m : List (K × V)) → m ≡ s → IfErr r (λ e. MayGrowRefuse (length m) e) → IfErr r (λ e. MayGrowRefuse (length s) e)
   same_refusal m e h = subst (λ z. IfErr r (λ e. MayGrowRefuse (length z) e)) e h
+
+module _ {K V : Type 0} where
+  -- The pair came back, and all stay.
+  pub back_beside : (r : Option (K × V)) (t new : Grown K V) (m s : List (K × V)) (pair : K × V) → t.pairs ++ m ≡ s
+      → IfSome r (λ back. (back ≡ pair) × (new ≡ t)) → IfSome r (λ back. (back ≡ pair) × (new.pairs ++ m ≡ s))
+  back_beside None t new m s pair e h = h
+  back_beside (Some x) t new m s pair e h = (h.0, ap (λ g. g.pairs ++ m) h.1 ∙ e)
+
+  -- Items are put into the map beside a tree of no pair, or come back.
+  pub merged_beside : {E : Type 0} (cmp : K → K → Ordering) (r : Result (Unit {0}) E) (t m new s items : List (K × V)) → t ≡ [] → m ≡ s
+      → IfOk r (λ _. new ≡ extended cmp m items) → IfOk r (λ _. t ++ new ≡ extended cmp s items)
+  merged_beside cmp (Ok x) t m new s items none e h = ap (λ z. z ++ new) none ∙ h ∙ ap (λ z. extended cmp z items) e
+  merged_beside cmp (Err b) t m new s items none e h = h
+
+  pub kept_beside : {E Z : Type 0} (P : E → Type 0) (r : Result (Unit {0}) E) (t : List (K × V)) (m new : Map K V Z) (s : List (K × V)) → t ++ entries m ≡ s
+      → IfErr r (λ b. (new ≡ m) × P b) → IfErr r (λ b. (t ++ entries new ≡ s) × P b)
+  kept_beside P (Ok x) t m new s e h = h
+  kept_beside P (Err b) t m new s e h = (ap (λ z. t ++ entries z) h.0 ∙ e, h.1)
 
 -- A tree that may still be counted has no other error than that of memory.
 pub push_refusal : {X : Type 0} (s : List X) (n : ℕ) (e : TryReserveError) → n ≡ length s → (n ≡ 2 ^ 64 - 1 → ⊥) → e ≡ AllocError

@@ -9,6 +9,7 @@ pub mod EndFacts
 pub mod WritingFacts
 pub mod VisitLaws
 pub mod ExtendFacts
+pub mod LoadFacts
 pub mod PopFacts
 pub mod SplitFacts
 pub mod CloneFacts

@@ -17,5 +17,6 @@ pub mod Stretches
 pub mod Compare
 pub mod CompareLaws
 pub mod BulkInsert
+pub mod BulkLoad
 pub mod PopIf
 pub mod Ranged

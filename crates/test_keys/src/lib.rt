@@ -15,6 +15,8 @@ mod first_uses;
 #[cfg(test)]
 mod kinds;
 #[cfg(test)]
+mod loads;
+#[cfg(test)]
 mod nested;
 #[cfg(test)]
 mod operators;

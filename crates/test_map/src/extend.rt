@@ -74,7 +74,7 @@ fn a_refused_extension_keeps_the_items_before(rt: HostRuntime) {
 }
 
 // A pair for each that counts drops, of the numbers below 170, 37 apart and round.
-fn tracked_pairs(
+pub(crate) fn tracked_pairs(
     alloc: Global,
     drops: &[Drops],
 ) -> Result<Vec<(Token<'_>, Token<'_>)>, AllocError> {
@@ -126,7 +126,7 @@ fn each_item_of_an_extension_is_dropped_once(rt: HostRuntime) {
     assert!(rt; were_all_dropped(&drops, 1));
 }
 
-fn tracked_map<'a>(
+pub(crate) fn tracked_map<'a>(
     alloc: Global,
     items: Vec<(Token<'a>, Token<'a>)>,
 ) -> Result<Tracked<'a>, TryReserveError> {

@@ -17,6 +17,8 @@ mod get_mut;
 #[cfg(test)]
 mod iter;
 #[cfg(test)]
+mod loads;
+#[cfg(test)]
 mod map;
 #[cfg(test)]
 mod neighbours;

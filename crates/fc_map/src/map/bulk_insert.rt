@@ -1,8 +1,9 @@
 //! Bulk insertion: items that ascend are pushed at the right edge of the map's tree.
-ghost use Rattle.std.specs.Prelude.{◌≡◌, ◌+◌, [], ◌∷◌, ◌++◌, length, IsTrue, IfOk, IfErr, None};
+ghost use Rattle.std.specs.Prelude.{◌≡◌, ◌+◌, [], ◌∷◌, ◌++◌, length, IsTrue, IfOk, IfErr, IfSome, None};
 ghost use Rattle.std.specs.List.{AllByRecursion};
 ghost use Rattle.std.specs.declared.cmp.Ordering.TheVariants.{Less};
 ghost use Rattle.fc_base.specs.Ascending.{IsAscending};
+ghost use Rattle.fc_base.specs.Extended.{extended};
 ghost use Rattle.fc_base.specs.Growth.{MayGrowRefuse};
 ghost use Rattle.fc_base.specs.OneKey.{put};
 ghost use Rattle.fc_base.specs.Parts.{at};
@@ -78,6 +79,34 @@ impl<K: Ord + Drop, V: Drop, A: Handle> BulkInsert<K, V, A> {
             close(&mut self.tree, &mut self.map);
         }
         self.map.put(key, value, &mut Count::new())
+    }
+
+    /// Puts the pair after all others where that takes no memory and one comparison; else it comes back.
+    #[inline(always)]
+    pub fn put_if_behind(&mut self, pair: (K, V)) -> Option<(K, V)>
+        ensures put { result ≡ None → self.new ≡ put K.cmp self.old pair.0 pair.1 }
+        ensures back { IfSome result (λ back. (back ≡ pair) × (self.new ≡ self.old)) }
+    {
+        self.tree.put_if_behind(pair)
+    }
+
+    /// Puts all items in, in turn, by a merge.
+    ///
+    /// # Errors
+    /// The items, in their order, where the tree is open, where they are few beside the pairs, or where memory for that is refused. All pairs then stay.
+    pub fn merge(&mut self, items: Vec<(K, V), A>) -> Result<(), Vec<(K, V), A>>
+        ensures merged { IfOk result (λ _. self.new ≡ extended K.cmp self.old items.items) }
+        ensures unchanged { IfErr result (λ back. (self.new ≡ self.old) × (back.items ≡ items.items)) }
+    {
+        if self.map.len() == 0 {
+            return Err(items);
+        }
+        self.map.merge(items)
+    }
+
+    /// How many pairs stand in the map: none as long as the tree is open.
+    pub fn closed_len(&self) -> usize {
+        self.map.len
     }
 
     /// The map of all pairs.

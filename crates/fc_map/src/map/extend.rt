@@ -7,7 +7,7 @@ ghost use Rattle.fc_vec.specs.Items.{GivesAll, GivesFirst};
 ghost use Rattle.fc_map.specs.Entries.{entries, IsSoundMap};
 
 use super::BTreeMap;
-use super::bulk_insert::BulkInsert;
+use super::bulk_load::BulkLoad;
 use fc_base::{Handle, TryReserveError};
 use fc_vec::TryFromIterator;
 use std::alloc::Global;
@@ -15,7 +15,9 @@ use std::alloc::Global;
 impl<K: Ord + Drop, V: Drop, A: Handle> BTreeMap<K, V, A> {
     /// Puts all items that the iterator gives into the map, in turn, each as `try_insert` does: where an equal key is there, that
     /// key stays and the new value takes the place of the old one, which is dropped. An item after all before it, those of the map too,
-    /// takes one comparison, as long as each before it did. Upstream: `BTreeMap::extend`, which panics where this call answers an error.
+    /// takes one comparison, as long as each before it did. Once many came out of order, items are gathered, sorted and merged with the pairs: that asks for
+    /// room for all of them and for all nodes at once; where that is refused, they go in one by one. Upstream: `BTreeMap::extend`, which panics where this call
+    /// answers an error.
     ///
     /// # Errors
     /// At the first item that `try_insert` refuses, whose key is new, with that error. The items before it stay in the map. It is
@@ -30,18 +32,19 @@ impl<K: Ord + Drop, V: Drop, A: Handle> BTreeMap<K, V, A> {
         ensures ascending { IsAscending K.cmp (entries self.new) }
         ensures sound { IsSoundMap self.new }
     {
-        let mut bulk_insert = BulkInsert::over(self);
+        let mut load = BulkLoad::over(self);
         for (key, value) in items {
-            match bulk_insert.try_put(key, value) {
+            match load.try_put(key, value) {
                 Ok(()) => (),
                 Err(error) => {
-                    *self = bulk_insert.finish();
+                    *self = load.finish();
                     return Err(error);
                 }
             }
         }
-        *self = bulk_insert.finish();
-        Ok(())
+        let done = load.flush();
+        *self = load.finish();
+        done
     }
 }
 

@@ -10,7 +10,7 @@ ghost use Rattle.fc_set.specs.Items.{items, smaller, not_smaller, AreAscending, 
 
 use super::BTreeSet;
 use fc_base::{Count, Handle, Query, TryClone, TryReserveError};
-use fc_map::map::bulk_insert::BulkInsert;
+use fc_map::map::bulk_load::BulkLoad;
 use fc_vec::TryFromIterator;
 use std::alloc::Global;
 
@@ -80,7 +80,8 @@ impl<T: Ord + Drop, A: Handle> BTreeSet<T, A> {
     }
 
     /// Puts all items that the iterator gives into the set, in turn, each as `try_insert` does: an equal item that is there stays. An item
-    /// after all before it, those of the set too, takes one comparison, as long as each before it did. Upstream: `BTreeSet::extend`, which panics where this call answers an error.
+    /// after all before it, those of the set too, takes one comparison, as long as each before it did. Once many came out of order, items are gathered, sorted and
+    /// merged with those of the set, as `BTreeMap::try_extend` does it. Upstream: `BTreeSet::extend`, which panics where this call answers an error.
     ///
     /// # Errors
     /// At the first item that `try_insert` refuses, which is new, with that error. The items before it stay in the set. It is dropped,
@@ -92,18 +93,19 @@ impl<T: Ord + Drop, A: Handle> BTreeSet<T, A> {
         ensures ascending { AreAscending T.cmp (items self.new) }
         ensures sound { IsSoundMap self.new }
     {
-        let mut bulk_insert = BulkInsert::over(&mut self.map);
+        let mut load = BulkLoad::over(&mut self.map);
         for item in given {
-            match bulk_insert.try_put(item, ()) {
+            match load.try_put(item, ()) {
                 Ok(()) => (),
                 Err(error) => {
-                    self.map = bulk_insert.finish();
+                    self.map = load.finish();
                     return Err(error);
                 }
             }
         }
-        self.map = bulk_insert.finish();
-        Ok(())
+        let done = load.flush();
+        self.map = load.finish();
+        done
     }
 }
 

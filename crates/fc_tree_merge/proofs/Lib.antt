@@ -1,0 +1,2 @@
+pub mod StableLaws
+pub mod MergedFacts
