@@ -1,6 +1,6 @@
 -- The laws of lists of pairs that are joined: what stands at each key, and that no other ascending list answers so.
 -- A caller names one on a function, as `#[tactic(auto, using(fc_laws::proofs::Laws::value_at_joined))]`, or cites it in an answer.
-use Rattle.std.proofs.Common.{◌≡◌, false, cond, List, [], ◌∷◌, ◌++◌, Option, Some, None, refl, sym, ap, ◌∙◌}
+use Rattle.std.proofs.Common.{◌≡◌, cond, List, [], ◌∷◌, ◌++◌, Option, Some, None, refl, sym, ap, ◌∙◌}
 use Rattle.std.specs.Prelude.{unwrap_or}
 use Rattle.std.specs.Option.{option_map, option_or}
 use Rattle.std.specs.Cmp.{IsTotalOrder}
@@ -83,4 +83,4 @@ module _ {K V : Type 0} (cmp : K → K → Ordering) where
   pub joined_is : (s t u : List (K × V)) → IsTotalOrder cmp → IsAscending cmp s → IsAscending cmp t → IsAscending cmp u
       → ((k : K) → at cmp u k ≡ option_or (at cmp t k) (at cmp s k)) → u ≡ joined cmp s t
   joined_is s t u total a b c answers =
-      same_pairs u (joined cmp s t) total c (ascending_joined cmp s t total a) (λ k. answers k ∙ sym (at_joined s t k total b))
+      same_pairs cmp u (joined cmp s t) total c (ascending_joined cmp s t total a) (λ k. answers k ∙ sym (at_joined s t k total b))

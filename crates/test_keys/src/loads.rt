@@ -9,6 +9,7 @@ use test_values::Tagged;
 
 // So many items that some are gathered twice, and so many numbers at most.
 const ITEMS: u64 = 12_000;
+
 const NUMBERS: usize = 8_000;
 
 // The number of the item at the place: 37 apart and round, down, in two runs, or up but for one in a hundred.
