@@ -4,8 +4,8 @@ use Rattle.fc_tree_slots.proofs.Steps.{get_or, Some, None, refl, sym, ap, arith,
 use Rattle.fc_tree_slots.proofs.Steps.{fact_i, tables, WpFn, ‵, raw, ◌⊛◌, prop, at_ret, ◌$◌, ◌∵◌, !, qed, by, move, drop, use0, split, join, rewrite, regoal}
 use Rattle.fc_tree_slots.proofs.Steps.{fsplit, fjoin, feq_i, enter, stop, of_opd, bin, size_lit, first, blocks, exec, returns, alloc_all, pass_all, free_all}
 use Rattle.fc_tree_slots.proofs.Steps.{look_at, get, through, sets, env, owns, types_at, nothing, heard, Stays, stay_dropped, walk_of, Goes-dropped}
-use Rattle.fc_tree_slots.proofs.Steps.{param_at, List, Val, stay_ref, Goes-ref, plain, fsplit3, fjoin3, load, look, set, proved_at, leaves, after, El, R, elτ, args}
-use Rattle.fc_tree_slots.proofs.Steps.{keep, init, assigns_last, vunit, unit_lit, ◌^◌, ℕ, length-set}
+use Rattle.fc_tree_slots.proofs.Steps.{param_at, List, Val, stay_ref, Goes-ref, plain, fsplit3, fjoin3, load, look, set, proved_at, leaves, after, El, R}
+use Rattle.fc_tree_slots.proofs.Steps.{elτ, args, keep, init, assigns_last, vunit, unit_lit, ◌^◌, ℕ, length-set}
 use Rattle.std_alloc.proofs.RawLayout.{as_written}
 use Rattle.core.proofs.ptr.Rows.{times_below, add_times}
 use denote.RawPtr.{ptr_val}
