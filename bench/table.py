@@ -3,7 +3,7 @@
 
   bench/instructions.py >bench/figures/instructions      (and so bench/own.py, and bench/run of walks, sets, map and whole: each into a file of its name)
   bench/instructions.py --unproved budget_driver >bench/figures/instructions_budget, and so of intervals_driver, timers_driver, tables_driver and
-                                 caches_driver in one run into instructions_uses
+                                 caches_driver in one run into instructions_uses, and all but these into instructions; misses into instructions_misses
   bench/table.py                 prints the tables
   bench/table.py --write         writes them into the page
 
@@ -49,7 +49,7 @@ def aims():
 
 # What was counted for itself, by how its title begins.
 USES = ["the map of stretches", "timers, a call", "the table of rows", "the cache"]
-APART = {"maps in a budget": "instructions_budget", **dict.fromkeys(USES, "instructions_uses")}
+APART = {"maps in a budget": "instructions_budget", "reads": "instructions_misses", **dict.fromkeys(USES, "instructions_uses")}
 
 
 def counts_of(title):

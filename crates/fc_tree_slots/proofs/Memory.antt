@@ -1,5 +1,6 @@
 -- What the walks of `raw` share, at a row of places. Assumes `Logic`.
 --     reach, rejoin     a place is taken out of the row, with the bounds of its offset, and put back
+--     bound, over     the bound of the whole row, and the way from one place to another
 --     reach_lent     the same of a row that is lent, which needs no way back
 --     value_out, emptied, value_in     an item's value is taken out of its place, which is room then, and put in
 --     cut, glued     room for an array is a row of empty places
@@ -83,6 +84,19 @@ module _ (R : RattleType) where
     rejoin t token p b o e cs i lt c = step (λ k. move t (1 ∷ []) $ fsplit t $
         rewrite t 0 (λ n. ‵ (block R token (block_ptr b o) n)) (sym (length-set cs i c)) refl $
         move t (2 ∷ 1 ∷ []) $ into t b o cs i lt c $ move t (1 ∷ 0 ∷ []) $ fjoin t $ rewrite t 0 (λ r. ‵ (row_owned R token r (set cs i c))) (sym e) refl $ k)
+
+    -- the bound of the whole row
+    pub bound : K → (token : Ty → Ptr → Fml) (b o : ℕ) (cs : List (Option R.Denot)) (i : ℕ) → {Γ : List (Item 𝓤)}
+        → (length cs * s < 2 ^ 63 → Seq K 𝓛 (‵ (Rest token b o cs i) ∷ Γ) G) → Seq K 𝓛 (‵ (Rest token b o cs i) ∷ Γ) G
+    bound t token b o cs i k = fsplit t $ fsplit t $ flt_l t (λ small. flt_i t (length cs * s) (2 ^ 63) small $ fjoin t $ fjoin t $ k small)
+
+    -- one place is put back, and another taken out
+    pub over : K → (token : Ty → Ptr → Fml) (b o : ℕ) (cs : List (Option R.Denot)) (i j : ℕ) → i < length cs → (c : Option R.Denot) → j < length cs
+        → {Γ : List (Item 𝓤)} → Step K 𝓛 (‵ (place R b (j * s + o) (get_or (set cs i c) j None)) ∷ ‵ (Rest token b o (set cs i c) j) ∷ Γ) G
+        (‵ (place R b (i * s + o) c) ∷ ‵ (Rest token b o cs i) ∷ Γ) G
+    over t token b o cs i j lt c le = step (λ k. move t (1 ∷ []) $ fsplit t $
+        rewrite t 0 (λ n. ‵ (block R token (block_ptr b o) n)) (sym (length-set cs i c)) refl $ move t (2 ∷ 1 ∷ []) $ into t b o cs i lt c $
+        out t b o (set cs i c) j (omega (arith, length-set cs i c, le)) $ move t (2 ∷ 1 ∷ []) $ fjoin t $ move t (1 ∷ []) $ k)
 
     seen : K → (κ : Lft) (b o : ℕ) (cs : List (Option R.Denot)) (i : ℕ) → i < length cs → {Γ : List (Item 𝓤)}
         → Step K 𝓛 (‵ (place_lent R b (i * s + o) (get_or cs i None) κ) ∷ Γ) G (‵ (places_lent R b o cs κ) ∷ Γ) G

@@ -4,10 +4,10 @@
 --     get_last, set_last     the last place before the hole is emptied
 --     get_end, set_end     the hole's last place is filled
 use Rattle.std.proofs.Common.{◌≡◌, ℕ, zero, suc, ◌+◌, ◌-◌, ◌<◌, List, [], ◌∷◌, ◌++◌, map, length, take, drop, set, get_or, replicate, Option, Some, None, refl}
-use Rattle.std.proofs.Common.{sym, ap, ◌∙◌, arith, length-append, length-take, append_assoc, append-nil}
+use Rattle.std.proofs.Common.{sym, ap, ◌∙◌, arith, length-append, length-take, length-set, append_assoc, append-nil}
 use Rattle.std.specs.Prelude.{true, false}
 use Rattle.std.proofs.lemmas.List.{nil_from_length}
-use Rattle.fc_tree_slots.specs.Cells.{present, holds, IsPacked, row}
+use Rattle.fc_tree_slots.specs.Cells.{IsPresent, present, holds, IsPacked, row}
 
 module _ {X : Type 0} where
   pub length-row : (xs : List X) (k : ℕ) (ys : List X) (m : ℕ) → length (row xs k ys m) ≡ length xs + (k + (length ys + m))
@@ -147,24 +147,24 @@ module _ {X : Type 0} where
     open_row : cs ≡ row zs k (y ∷ drop (suc j) ys) m
     open_row = is ∙ ap (λ l. row zs k l m) (cut_at ys j lt).1
 
-    pub down_holds : get_or cs p None ≡ Some y
+    taken : set cs p None ≡ row zs (suc k) (drop (suc j) ys) m
+    taken = ap (λ l. set l p None) open_row ∙ set_next zs k y (drop (suc j) ys) m p (omega (arith, long))
+
+    down_holds : get_or cs p None ≡ Some y
     down_holds = ap (λ l. get_or l p None) open_row ∙ get_next zs k y (drop (suc j) ys) m p (omega (arith, long))
 
-    taken : (ds : List (Option X)) → ds ≡ set cs p None → ds ≡ row zs (suc k) (drop (suc j) ys) m
-    taken ds e = e ∙ ap (λ l. set l p None) open_row ∙ set_next zs k y (drop (suc j) ys) m p (omega (arith, long))
+    pub down_ready : IsPresent cs p × (q < length cs) × (get_or (set cs p None) q None ≡ None)
+    down_ready = (
+      (_, down_holds),
+      omega (arith, long, length-row zs (suc k) (drop (suc j) ys) m, ap length taken, length-set cs p None),
+      ap (λ l. get_or l q None) taken ∙ get_first zs k (drop (suc j) ys) m q (omega (arith, long)),
+    )
 
-    pub down_free : (ds : List (Option X)) → ds ≡ set cs p None → IsFree ds q
-    down_free ds e =
-        let size = length-row zs (suc k) (drop (suc j) ys) m in let same : length ds ≡ length (row zs (suc k) (drop (suc j) ys) m) = ap length (taken ds e) in
-        (omega (arith, long), ap (λ l. get_or l q None) (taken ds e) ∙ get_first zs k (drop (suc j) ys) m q (omega (arith, long)))
-
-    pub down_done : (ds es : List (Option X)) (item : X) (j' : ℕ) → ds ≡ set cs p None → get_or cs p None ≡ Some item → es ≡ set ds q (Some item) → j' ≡ suc j
-        → es ≡ row (xs ++ take j' ys) k (drop j' ys) m
-    down_done ds es item j' e got f next =
-        let both : Some y ≡ Some item = sym down_holds ∙ got in let same : y ≡ item = cc in
-        let more : zs ++ item ∷ [] ≡ xs ++ take j' ys = append_assoc xs (take j ys) (item ∷ []) ∙ (λ i. xs ++ (take j ys ++ sym same i ∷ []))
-        ∙ (λ i. xs ++ sym (cut_at ys j lt).2 i) ∙ (λ i. xs ++ take (sym next i) ys) in
-        f ∙ ap (λ l. set l q (Some item)) (taken ds e) ∙ set_first zs k (drop (suc j) ys) m q item (omega (arith, long))
+    pub down_done : (es : List (Option X)) (j' : ℕ) → es ≡ set (set cs p None) q (get_or cs p None) → j' ≡ suc j → es ≡ row (xs ++ take j' ys) k (drop j' ys) m
+    down_done es j' f next =
+        let more : zs ++ y ∷ [] ≡ xs ++ take j' ys = append_assoc xs (take j ys) (y ∷ []) ∙ (λ i. xs ++ sym (cut_at ys j lt).2 i)
+        ∙ (λ i. xs ++ take (sym next i) ys) in
+        f ∙ (λ i. set (taken i) q (down_holds i)) ∙ set_first zs k (drop (suc j) ys) m q y (omega (arith, long))
         ∙ (λ i. row (more i) k (drop (sym next i) ys) m)
 
   -- the items of zs go up by k places, the last ones first, and those before j are left
@@ -179,25 +179,22 @@ module _ {X : Type 0} where
     open_last : cs ≡ row (take j zs ++ z ∷ []) k (drop (suc j) zs) m
     open_last = is ∙ ap (λ l. row l k (drop (suc j) zs) m) (cut_at zs j lt).2
 
-    pub up_holds : get_or cs p None ≡ Some z
+    lifted : set cs p None ≡ row (take j zs) (suc k) (drop (suc j) zs) m
+    lifted = ap (λ l. set l p None) open_last ∙ set_last (take j zs) z k (drop (suc j) zs) m p (omega (arith, short))
+
+    up_holds : get_or cs p None ≡ Some z
     up_holds = ap (λ l. get_or l p None) open_last ∙ get_last (take j zs) z k (drop (suc j) zs) m p (omega (arith, short))
 
-    lifted : (ds : List (Option X)) → ds ≡ set cs p None → ds ≡ row (take j zs) (suc k) (drop (suc j) zs) m
-    lifted ds e = e ∙ ap (λ l. set l p None) open_last ∙ set_last (take j zs) z k (drop (suc j) zs) m p (omega (arith, short))
+    pub up_ready : IsPresent cs p × (q < length cs) × (get_or (set cs p None) q None ≡ None)
+    up_ready = (
+      (_, up_holds),
+      omega (arith, short, length-row (take j zs) (suc k) (drop (suc j) zs) m, ap length lifted, length-set cs p None),
+      ap (λ l. get_or l q None) lifted ∙ get_end (take j zs) k (drop (suc j) zs) m q (omega (arith, short)),
+    )
 
-    pub up_free : (ds : List (Option X)) → ds ≡ set cs p None → IsFree ds q
-    up_free ds e =
-        let size = length-row (take j zs) (suc k) (drop (suc j) zs) m in
-        let same : length ds ≡ length (row (take j zs) (suc k) (drop (suc j) zs) m) = ap length (lifted ds e) in
-        (omega (arith, short), ap (λ l. get_or l q None) (lifted ds e) ∙ get_end (take j zs) k (drop (suc j) zs) m q (omega (arith, short)))
-
-    pub up_done : (ds es : List (Option X)) (item : X) (j' : ℕ) → ds ≡ set cs p None → get_or cs p None ≡ Some item → es ≡ set ds q (Some item) → j' ≡ j
-        → es ≡ row (take j' zs) k (drop j' zs) m
-    up_done ds es item j' e got f next =
-        let both : Some z ≡ Some item = sym up_holds ∙ got in let same : z ≡ item = cc in
-        let more : item ∷ drop (suc j) zs ≡ drop j' zs = (λ i. sym same i ∷ drop (suc j) zs) ∙ sym (cut_at zs j lt).1 ∙ (λ i. drop (sym next i) zs) in
-        f ∙ ap (λ l. set l q (Some item)) (lifted ds e) ∙ set_end (take j zs) k (drop (suc j) zs) m q item (omega (arith, short))
-        ∙ (λ i. row (take (sym next i) zs) k (more i) m)
+    pub up_done : (es : List (Option X)) → es ≡ set (set cs p None) q (get_or cs p None) → es ≡ row (take j zs) k (drop j zs) m
+    up_done es f = f ∙ (λ i. set (lifted i) q (up_holds i)) ∙ set_end (take j zs) k (drop (suc j) zs) m q z (omega (arith, short))
+        ∙ (λ i. row (take j zs) k (sym (cut_at zs j lt).1 i) m)
 
   -- the items of ys leave a row after the first j of them, which are gone
   module _ (xs ys : List X) (m j p : ℕ) (cs : List (Option X)) (is : cs ≡ row xs j (drop j ys) m) (lt : j < length ys) (at_p : p ≡ length xs + j) where

@@ -18,10 +18,9 @@ impl<T, A: Allocator> Cells<T, A> {
     {
         let places = &mut self.row;
         let start = places.start();
-        for i in from..end {
-            let item = places.take_from(start, i);
+        for i in 0..end - from {
             add_moves(count, 1);
-            places.set_from(start, i - by, item);
+            places.move_within(start, from - by, by, 0, i);
         }
     }
 
@@ -35,10 +34,9 @@ impl<T, A: Allocator> Cells<T, A> {
     {
         let places = &mut self.row;
         let start = places.start();
-        for i in (from..end - by).rev() {
-            let item = places.take_from(start, i);
+        for i in (0..end - by - from).rev() {
             add_moves(count, 1);
-            places.set_from(start, i + by, item);
+            places.move_within(start, from, 0, by, i);
         }
     }
 
