@@ -8,7 +8,7 @@ pub use Rattle.fc_base.proofs.Laws.{put_by_query, cut_query, within_all, within_
 pub use Rattle.fc_base.proofs.JoinedLaws.{halves_joined, placed_behind, joined_behind, joined_halves, ascending_joined}
 pub use Rattle.fc_set.proofs.OperationLaws.{lengths, in_common, difference_at_least, difference_at_most, common_at_most, union_at_least, union_at_most}
 pub use Rattle.fc_set.proofs.OperationLaws.{symmetric_at_most}
-pub use Rattle.fc_tree_merge.proofs.StableLaws.{same_pairs, ascending_extended, extended_stable}
+pub use Rattle.fc_tree_merge.proofs.StableLaws.{same_pairs, extended_more, ascending_extended, extended_stable}
 pub use Rattle.fc_map.proofs.VisitLaws.{visits_map, visited_whole}
 pub use Rattle.fc_laws.proofs.NeighbourLaws.{within_from, within_after, within_to, within_before, not_below_query, above_query, not_above_query, below_query}
 pub use Rattle.fc_laws.proofs.NeighbourLaws.{exact_pair, first_there, first_passes, first_least, first_none, last_there, last_passes, last_greatest, last_none}

@@ -6,7 +6,7 @@ pub use Rattle.fc_base.proofs.Laws.{ascending_back, at_between, cut_between, fir
 pub use Rattle.fc_base.proofs.Laws.{at_last, cut_first, cut_last, at_query, value_at_query, value_at_put_query, at_put_other_query, value_at_put_other_query}
 pub use Rattle.fc_base.proofs.Laws.{put_by_query, cut_query, within_all, within_bounds, ascending_within, places_are_within}
 pub use Rattle.fc_base.proofs.JoinedLaws.{halves_joined, placed_behind, joined_behind, joined_halves, ascending_joined}
-pub use Rattle.fc_tree_merge.proofs.StableLaws.{same_pairs, ascending_extended, extended_stable}
+pub use Rattle.fc_tree_merge.proofs.StableLaws.{same_pairs, extended_more, ascending_extended, extended_stable}
 pub use Rattle.fc_map.proofs.VisitLaws.{visits_map, visited_whole}
 pub use Rattle.fc_laws.proofs.NeighbourLaws.{within_from, within_after, within_to, within_before, not_below_query, above_query, not_above_query, below_query}
 pub use Rattle.fc_laws.proofs.NeighbourLaws.{exact_pair, first_there, first_passes, first_least, first_none, last_there, last_passes, last_greatest, last_none}

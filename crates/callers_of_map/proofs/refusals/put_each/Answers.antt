@@ -2,7 +2,7 @@ use Rattle.std.proofs.Common.{◌++◌, rules, ap, ◌∙◌}
 use Rattle.std.proofs.lemmas.Result.{err_from_is_err_and}
 use Rattle.std.specs.Vec.Iter.{into_iter_items}
 use Rattle.fc_map.specs.Entries.{entries}
-use Rattle.fc_map.proofs.ExtendFacts.{extended_more}
+use Rattle.fc_laws.proofs.Laws.{extended_more}
 use Rattle.callers_of_map.proofs.Lists.{none_left, moved_on}
 use Rattle.callers_of_map.proofs.refusals.put_each.Goals as goal
 

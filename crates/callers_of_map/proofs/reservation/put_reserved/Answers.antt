@@ -1,7 +1,7 @@
 use Rattle.std.proofs.Common.{◌≡◌, ℕ, ◌+◌, ◌≤◌, length, Option, None, Some, MatchOption, ap, ◌∙◌, rules, arith}
 use Rattle.std.specs.Vec.Iter.{into_iter_items}
 use Rattle.fc_map.specs.Entries.{entries}
-use Rattle.fc_map.proofs.ExtendFacts.{extended_more}
+use Rattle.fc_laws.proofs.Laws.{extended_more}
 use Rattle.callers_of_map.proofs.Lists.{moved_on}
 use Rattle.callers_of_map.proofs.reservation.put_reserved.Goals as goal
 
