@@ -4,9 +4,9 @@ use Rattle.std.proofs.Common.{ap, ◌∙◌, arith, length-append}
 use Rattle.std.proofs.lemmas.List.{nil_from_length}
 use Rattle.std.specs.Prelude.{true, false}
 use Rattle.fc_tree_slots.specs.declared.rest.Rest.TheInside.{Inside}
-use Rattle.fc_tree_slots.specs.Cells.{present, holds, row}
+use Rattle.fc_tree_slots.specs.Cells.{present, holds, row, IsPacked}
 use Rattle.fc_tree_slots.specs.Rest.{IsPackedFrom}
-use Rattle.fc_tree_slots.proofs.Rows.{get_next, set_next, present_row, row_cut, row_open, unpacks, cut_at}
+use Rattle.fc_tree_slots.proofs.Rows.{get_next, set_next, present_row, row_cut, row_open, packs, unpacks, cut_at}
 use Rattle.fc_tree_slots.proofs.Laid.{holds_at, value_at}
 
 module _ {X : Type 0} where
@@ -128,3 +128,9 @@ module _ {X : Type 0} where
   all_gone cs ys i m e n is long all done =
       let none : ys ≡ [] = nil_from_length ys (omega arith) in
       is ∙ ap (λ l. row [] i l m) none ∙ sym (row_open [] i m n (omega arith))
+
+  -- the room of what was all taken
+  pub emptied : (cs : List (Option X)) (xs : List X) (a e n : ℕ) → cs ≡ row [] a xs (n - e) → a + length xs ≡ e → e ≤ n → length xs ≡ 0 → IsPacked cs 0 n
+  emptied cs xs a e n is long fits none =
+      let gone = all_gone cs xs a (n - e) e n is long (omega arith) (omega arith) in
+      (packs cs [] n 0 n (gone ∙ sym (row_open [] 0 n n (omega arith))) refl (omega arith)).0

@@ -3,6 +3,7 @@ ghost use Rattle.std.specs.Prelude.{◌≡◌, ◌<◌, [], ◌∷◌, ◌++◌,
 ghost use Rattle.fc_tree_slots.specs.Cells.{present, IsPacked};
 
 use crate::cells::Cells;
+use crate::slots::Slots;
 use std::alloc::{Allocator, Global};
 use std::marker::Model;
 
@@ -52,6 +53,19 @@ impl<T, const N: usize, A: Allocator> Rest<T, N, A> {
             start: 0,
             end: len,
         }
+    }
+
+    /// A list of no item in the room of this one, whose items are all taken. It takes no memory.
+    pub fn into_slots(self) -> Slots<T, N, A>
+        requires { length self ≡ 0 }
+        ensures { result ≡ [] }
+    {
+        let Rest {
+            cells,
+            start: _,
+            end: _,
+        } = self;
+        Slots::over(cells)
     }
 
     /// How many items are left.
