@@ -1,1 +1,2 @@
 pub mod Grafted
+pub mod Reused

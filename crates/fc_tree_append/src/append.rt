@@ -16,7 +16,7 @@ use std::mem;
 /// Moves all pairs of `theirs` into `ours`, and answers how many there are then. Of two equal keys the pair of `theirs` stays, and
 /// ours is dropped. Where either holds none nothing is asked for and nothing compared. Where all keys of `theirs` lie beyond ours, that
 /// takes just one comparison, and a few nodes of each level from the shorter tree's root up. Else each key is compared at most once, and
-/// there are at least as many comparisons as the shorter tree has pairs. No move is counted.
+/// there are at least as many comparisons as the shorter tree has pairs, and the pairs are put into the leaves of both. No move is counted.
 ///
 /// # Errors
 /// `CapacityOverflow` where both hold pairs and their lengths pass `usize::MAX` together, and `AllocError` if a node for them is
@@ -61,7 +61,7 @@ pub fn try_append<K: Ord + Drop, V: Drop, A: Handle>(
         try_join(alloc, ours, theirs)?;
         return Ok(len);
     }
-    let builder = Builder::try_new(alloc, len)?;
+    let builder = Builder::try_for_given_leaves(alloc, len)?;
     let (root, len) = merge(ours.take(), theirs.take(), builder, count);
     *ours = root;
     Ok(len)

@@ -1,19 +1,22 @@
-//! The pairs of two ascending trees in one, by one comparison a step.
-ghost use Rattle.std.specs.Prelude.{◌≡◌, ◌+◌, ◌-◌, ◌<◌, ◌≤◌, [], ◌++◌, length, min};
+//! The pairs of two ascending trees in one, by one comparison a step, in the leaves of both.
+ghost use Rattle.std.specs.Prelude.{◌≡◌, ℕ, ◌+◌, ◌-◌, ◌*◌, ◌<◌, ◌≤◌, [], ◌∷◌, ◌++◌, length, min};
 ghost use Rattle.fc_base.specs.Ascending.{IsAscending};
 ghost use Rattle.fc_base.specs.Joined.{joined};
+ghost use Rattle.fc_base.specs.Sizes.{capacity, most_children};
 ghost use Rattle.fc_tree_node.specs.Tree.{entries, IsSoundMap};
+ghost use Rattle.fc_tree_drain.specs.LeafFront.{IsOpenLeaf};
+ghost use Rattle.fc_tree_append.specs.Reused.{HasRoom};
 
 use fc_base::{Count, Handle, compare};
 use fc_tree_build::builder::Builder;
-use fc_tree_drain::drain::Front;
+use fc_tree_drain::leaf_front::LeafFront;
 use fc_tree_node::node::Node;
 use std::cmp::Ordering;
 
 /// Merges two trees: the pairs of both in ascending order, and how many they are; of two equal keys the pair of `theirs` stays,
-/// and ours is dropped. A key is compared once for each pair that is put in, until either tree has no more: never for the last one, and
-/// at least as often as the shorter has pairs.
-pub fn merge<K: Ord + Drop, V: Drop, A: Handle>(
+/// and ours is dropped. A leaf of theirs or ours that is used up is filled anew, so that two more are enough. A key is compared once for
+/// each pair that is put in, until either tree has no more: never for the last one, and at least as often as the shorter has pairs.
+pub(crate) fn merge<K: Ord + Drop, V: Drop, A: Handle>(
     ours: Option<Node<K, V, A>>,
     theirs: Option<Node<K, V, A>>,
     builder: Builder<K, V, A>,
@@ -23,7 +26,8 @@ pub fn merge<K: Ord + Drop, V: Drop, A: Handle>(
     requires sound { IsSoundMap ours × IsSoundMap theirs }
     requires order { IsAscending K.cmp (entries ours) × IsAscending K.cmp (entries theirs) }
     requires blank { builder.pairs ≡ [] }
-    requires room { length (entries ours) + length (entries theirs) ≤ builder.room }
+    requires limit { length (entries ours) + length (entries theirs) ≤ builder.limit }
+    requires room { min builder.limit (2 * most_children - 1) ≤ builder.room }
     ensures pairs { entries result.0 ≡ joined K.cmp (entries ours) (entries theirs) }
     ensures sound { IsSoundMap result.0 }
     ensures len { result.1 ≡ length (entries result.0) }
@@ -32,54 +36,91 @@ pub fn merge<K: Ord + Drop, V: Drop, A: Handle>(
     ensures moves { count.new.moves ≡ count.old.moves }
 {
     let mut builder = builder;
-    let room = builder.room();
-    let mut our_pairs = Front::over(ours);
-    let mut their_pairs = Front::over(theirs);
+    let limit = builder.limit();
+    let mut our_pairs = LeafFront::over(ours);
+    let mut their_pairs = LeafFront::over(theirs);
     while !our_pairs.is_empty() && !their_pairs.is_empty() {
         step(&mut our_pairs, &mut their_pairs, &mut builder, count);
     }
     push_all(&mut our_pairs, &mut builder);
     push_all(&mut their_pairs, &mut builder);
-    let len = room - builder.room();
+    let len = limit - builder.limit();
     (builder.finish(), len)
 }
 
 // Puts the smaller one of two first pairs into the builder, and of two equal keys theirs.
 fn step<K: Ord + Drop, V: Drop, A: Handle>(
-    ours: &mut Front<K, V, A>,
-    theirs: &mut Front<K, V, A>,
+    ours: &mut LeafFront<K, V, A>,
+    theirs: &mut LeafFront<K, V, A>,
     builder: &mut Builder<K, V, A>,
     count: &mut Count,
 )
-    requires some { (0 < length ours.old) × (0 < length theirs.old) }
-    requires order { IsAscending K.cmp ours.old × IsAscending K.cmp theirs.old }
-    requires room { length ours.old + length theirs.old ≤ builder.old.room }
-    ensures order { IsAscending K.cmp ours.new × IsAscending K.cmp theirs.new }
-    ensures room { length ours.new + length theirs.new ≤ builder.new.room }
-    ensures pairs { builder.new.pairs ++ joined K.cmp ours.new theirs.new ≡ builder.old.pairs ++ joined K.cmp ours.old theirs.old }
-    ensures fewer { length ours.new + length theirs.new < length ours.old + length theirs.old }
-    ensures filled { length builder.new.pairs + builder.new.room ≡ length builder.old.pairs + builder.old.room }
-    ensures taken { (length ours.old ≤ length ours.new + 1) × (length theirs.old ≤ length theirs.new + 1) }
+    requires some { (0 < length ours.old.pairs) × (0 < length theirs.old.pairs) }
+    requires order { IsAscending K.cmp ours.old.pairs × IsAscending K.cmp theirs.old.pairs }
+    requires room { HasRoom ours.old theirs.old builder.old }
+    ensures order { IsAscending K.cmp ours.new.pairs × IsAscending K.cmp theirs.new.pairs }
+    ensures room { HasRoom ours.new theirs.new builder.new }
+    ensures pairs { builder.new.pairs ++ joined K.cmp ours.new.pairs theirs.new.pairs ≡ builder.old.pairs ++ joined K.cmp ours.old.pairs theirs.old.pairs }
+    ensures fewer { length ours.new.pairs + length theirs.new.pairs < length ours.old.pairs + length theirs.old.pairs }
+    ensures filled { length builder.new.pairs + builder.new.limit ≡ length builder.old.pairs + builder.old.limit }
+    ensures taken { (length ours.old.pairs ≤ length ours.new.pairs + 1) × (length theirs.old.pairs ≤ length theirs.new.pairs + 1) }
     ensures comparisons { count.new.comparisons ≡ count.old.comparisons + 1 }
     ensures moves { count.new.moves ≡ count.old.moves }
 {
     match compare(&ours.first().0, &theirs.first().0, count) {
-        Ordering::Less => builder.push(ours.next()),
-        Ordering::Equal => {
-            drop(ours.next());
-            builder.push(theirs.next());
+        Ordering::Less => {
+            let pair = next(ours, builder);
+            builder.push(pair);
         }
-        Ordering::Greater => builder.push(theirs.next()),
+        Ordering::Equal => {
+            drop(next(ours, builder));
+            let pair = next(theirs, builder);
+            builder.push(pair);
+        }
+        Ordering::Greater => {
+            let pair = next(theirs, builder);
+            builder.push(pair);
+        }
     }
 }
 
 // Puts all pairs that are left into the builder.
-fn push_all<K: Drop, V: Drop, A: Handle>(pairs: &mut Front<K, V, A>, builder: &mut Builder<K, V, A>)
-    requires room { length pairs.old ≤ builder.old.room }
-    ensures pairs { builder.new.pairs ≡ builder.old.pairs ++ pairs.old }
-    ensures filled { length builder.new.pairs + builder.new.room ≡ length builder.old.pairs + builder.old.room }
+fn push_all<K: Drop, V: Drop, A: Handle>(
+    pairs: &mut LeafFront<K, V, A>,
+    builder: &mut Builder<K, V, A>,
+)
+    requires leaf { IsOpenLeaf pairs.old }
+    requires limit { length pairs.old.pairs ≤ builder.old.limit }
+    requires room { pairs.old.in_leaf ≤ builder.old.room }
+    ensures pairs { builder.new.pairs ≡ builder.old.pairs ++ pairs.old.pairs }
+    ensures filled { length builder.new.pairs + builder.new.limit ≡ length builder.old.pairs + builder.old.limit }
+    ensures room { (other : ℕ) → other ≤ capacity → length pairs.old.pairs + other ≤ builder.old.limit → pairs.old.in_leaf + other ≤ builder.old.room → other ≤ builder.new.room }
 {
     while !pairs.is_empty() {
-        builder.push(pairs.next());
+        let pair = next(pairs, builder);
+        builder.push(pair);
     }
+}
+
+// Takes the first pair out. Where the open leaf is used up, it goes to the builder, so that there is room for the pair, for the rest of
+// the next leaf, and for the rest of another one as before.
+#[inline(always)]
+fn next<K: Drop, V: Drop, A: Handle>(
+    pairs: &mut LeafFront<K, V, A>,
+    builder: &mut Builder<K, V, A>,
+) -> (K, V)
+    requires some { 0 < length pairs.old.pairs }
+    requires leaf { IsOpenLeaf pairs.old }
+    ensures pairs { pairs.old.pairs ≡ result ∷ pairs.new.pairs }
+    ensures leaf { IsOpenLeaf pairs.new }
+    ensures kept { builder.new.pairs ≡ builder.old.pairs }
+    ensures limit { builder.new.limit ≡ builder.old.limit }
+    ensures room { (other : ℕ) → other ≤ capacity → length pairs.old.pairs + other ≤ builder.old.limit → pairs.old.in_leaf + other ≤ builder.old.room → pairs.new.in_leaf + other < builder.new.room }
+{
+    if pairs.in_leaf() > 0 {
+        return pairs.next_in_leaf();
+    }
+    let (pair, leaf) = pairs.next_leaf();
+    builder.give_leaf(leaf);
+    pair
 }

@@ -1,5 +1,5 @@
 -- A new builder, and one whose last leaf was full.
-use Rattle.std.proofs.Common.{◌≡◌, ℕ, zero, suc, ◌+◌, ◌-◌, ◌/◌, ◌^◌, ◌<◌, ◌≤◌, List, [], ◌∷◌, ◌++◌, length, refl, sym, ap, ◌∙◌, subst, arith, append_assoc}
+use Rattle.std.proofs.Common.{◌≡◌, ℕ, zero, suc, ◌+◌, ◌-◌, ◌*◌, ◌/◌, ◌^◌, ◌<◌, ◌≤◌, ◌⊎◌, inl, inr, min, List, [], ◌∷◌, ◌++◌, length, refl, sym, ap, ◌∙◌, subst, arith, append_assoc}
 use Rattle.std.proofs.Common.{append-nil, length-append, Option, Some, None, ◌↔◌}
 use Rattle.std.specs.Option.{option_to_list}
 use Rattle.std.specs.List.{AllByRecursion}
@@ -11,20 +11,18 @@ use Rattle.fc_tree_node.proofs.Lists.{all_front, all_back}
 use Rattle.fc_tree_node.proofs.Pairs.{leaf_pairs}
 use Rattle.fc_tree_drain.specs.Opened.{before_back}
 use Rattle.fc_tree_build.specs.Spares.{inner_above, inner_for, IsEnough, leaves_for}
-use Rattle.fc_tree_build.specs.Built.{Built, last_pairs, IsLast}
+use Rattle.fc_tree_build.specs.Built.{last_pairs, room_behind, leaves_behind, IsLast}
 
 pub leaves_some : (n : ℕ) → 0 < n → n / most_children + 1 ≡ leaves_for n
 leaves_some zero h = absurd (omega arith)
 leaves_some (suc n) h = refl
 
--- how many leaves are left of those for n pairs, once one is taken out
-none_left : (n : ℕ) → leaves_for n ≡ 0 → n ≡ 0
-none_left zero e = refl
-none_left (suc n) e = let f : suc n / most_children + 1 ≡ 0 = e in absurd (omega arith)
+-- both bounds, and so the lower one, are one less
+pub less_room : (a b c d : ℕ) → c + 1 ≡ a → d + 1 ≡ b → min c d + 1 ≡ min a b
+less_room a b c d e f = omega arith
 
-some_left : (n m : ℕ) → leaves_for n ≡ m + 1 → m ≡ n / most_children
-some_left zero m e = let f : 0 ≡ m + 1 = e in absurd (omega arith)
-some_left (suc n) m e = let f : suc n / most_children + 1 ≡ m + 1 = e in omega arith
+pub some_room : (a b r : ℕ) → min a b ≡ r → 0 < r → (0 < a) × (0 < b)
+some_room a b r e some = (omega arith, omega arith)
 
 module _ {K V Z : Type 0} where
   pub leaf_taken : (old new : List (Node K V Z)) (b : Node K V Z) → old ≡ new ++ b ∷ [] → AllByRecursion (λ x. IsBlankLeaf x) old
@@ -36,31 +34,28 @@ module _ {K V Z : Type 0} where
 
   -- ---- a new builder: of its leaves the last one is taken out, if there is one
 
-  -- how many leaves are left
-  pub spare_leaves : (n : ℕ) (all new : List (Node K V Z)) (o : Option (Node K V Z)) → all ≡ new ++ option_to_list o → length all ≡ leaves_for n
-      → (o ≡ None → length all ≡ 0) → length new ≡ n / most_children
-  spare_leaves n all new None e l z =
-      let k = ap length e ∙ length-append new [] in
-      let y = z refl in
-      let none = none_left n (omega arith) in
-      omega arith
-  spare_leaves n all new (Some b) e l z =
-      let k = ap length e ∙ length-append new (b ∷ []) in
-      let m = some_left n (length new) (omega arith) in
-      omega arith
-
-  pub first_last : (n : ℕ) (all new s : List (Node K V Z)) (o : Option (Node K V Z)) → s ≡ [] → all ≡ new ++ option_to_list o → length all ≡ leaves_for n
-      → AllByRecursion (λ x. IsBlankLeaf x) all → (o ≡ None → length all ≡ 0) → IsLast o (length new) n s
-  first_last n all new s None f e l a z =
-      let k = ap length e ∙ length-append new [] in
-      let y = z refl in
-      (none_left n (omega arith), omega arith, f)
-  first_last n all new s (Some b) f e l a z =
-      let k = ap length e ∙ length-append new (b ∷ []) in
-      let m = some_left n (length new) (omega arith) in
+  pub first_last : (n : ℕ) (all new s : List (Node K V Z)) (o : Option (Node K V Z)) → s ≡ [] → all ≡ new ++ option_to_list o
+      → AllByRecursion (λ x. IsBlankLeaf x) all → (o ≡ None → length all ≡ 0) → (length all ≡ 0 → n ≡ 0) → IsLast o n s
+  first_last n all new s None f e a z w = (w (z refl), f)
+  first_last n all new s (Some b) f e a z w =
       let t = (leaf_taken all new b e a).0 in
-      let w = ap length t.0 in
-      (omega arith, t.1, omega arith)
+      let l = ap length t.0 in
+      (omega arith, t.1)
+
+  -- it holds nothing
+  pub first_none : (all new : List (Node K V Z)) (o : Option (Node K V Z)) → all ≡ new ++ option_to_list o → AllByRecursion (λ x. IsBlankLeaf x) all
+      → last_pairs o ≡ []
+  first_none all new None e a = refl
+  first_none all new (Some b) e a = (leaf_taken all new b e a).0.0
+
+  -- for how many pairs there is room in all the leaves
+  pub first_room : (count : ℕ) (all new : List (Node K V Z)) (o : Option (Node K V Z)) → all ≡ new ++ option_to_list o → length all ≡ count
+      → AllByRecursion (λ x. IsBlankLeaf x) all → (o ≡ None → length all ≡ 0) → room_behind o (length new) ≡ most_children * count - 1
+  first_room count all new None e l a z = let none = z refl in omega arith
+  first_room count all new (Some b) e l a z =
+      let k = ap length e ∙ length-append new (b ∷ []) in
+      let none = ap length (leaf_taken all new b e a).0.0 in
+      omega arith
 
   pub first_leaves : (all new : List (Node K V Z)) (o : Option (Node K V Z)) → all ≡ new ++ option_to_list o → AllByRecursion (λ x. IsBlankLeaf x) all
       → AllByRecursion (λ x. IsBlankLeaf x) new
@@ -77,14 +72,13 @@ module _ {K V Z : Type 0} where
 
   pub first_pairs : (all new s : List (Node K V Z)) (o : Option (Node K V Z)) → s ≡ [] → all ≡ new ++ option_to_list o → AllByRecursion (λ x. IsBlankLeaf x) all
       → before_back s ++ last_pairs o ≡ []
-  first_pairs all new s None f e a = ap (λ t. before_back t ++ []) f
-  first_pairs all new s (Some b) f e a = ap (λ t. before_back t ++ own_pairs b) f ∙ (leaf_taken all new b e a).0.0
+  first_pairs all new s o f e a = ap (λ t. before_back t ++ last_pairs o) f ∙ first_none all new o e a
 
   -- ---- a builder whose last leaf is full
 
-  pub last_is : (o : Option (Node K V Z)) (leaf : Node K V Z) (q room : ℕ) (s : List (Node K V Z)) → o ≡ Some leaf → IsLast o q room s
-      → IsLast (Some leaf) q room s
-  last_is o leaf q room s e l = subst (λ x. IsLast x q room s) e l
+  pub last_is : (o : Option (Node K V Z)) (leaf : Node K V Z) (limit : ℕ) (s : List (Node K V Z)) → o ≡ Some leaf → IsLast o limit s
+      → IsLast (Some leaf) limit s
+  last_is o leaf limit s e l = subst (λ x. IsLast x limit s) e l
 
   pub leaf_sound : (n : Node K V Z) → length (own_pairs n) ≤ capacity → IsLeaf n → capacity ≤ length (own_pairs n) → IsSound 0 n
   leaf_sound n h l f = (omega arith, (h, l))
@@ -98,18 +92,43 @@ module _ {K V Z : Type 0} where
       ∙ ap (λ x. (before_back s ++ last_pairs x) ++ pair ∷ []) (sym e) ∙ ap (λ ys. ys ++ pair ∷ []) v
 
   -- what the last leaf and the nodes above it hold
-  pub all_built : (o : Option (Node K V Z)) (leaf : Node K V Z) (s : List (Node K V Z)) (r : ℕ) (v : Built K V) → o ≡ Some leaf
-      → record { pairs = before_back s ++ last_pairs o; room = r } ≡ v → before_back s ++ own_pairs leaf ≡ v.pairs
-  all_built o leaf s r v e f = ap (λ x. before_back s ++ last_pairs x) (sym e) ∙ ap (λ x. x.pairs) f
+  pub all_built : (o : Option (Node K V Z)) (leaf : Node K V Z) (s : List (Node K V Z)) (zs : List (K × V)) → o ≡ Some leaf
+      → before_back s ++ last_pairs o ≡ zs → before_back s ++ own_pairs leaf ≡ zs
+  all_built o leaf s zs e f = ap (λ x. before_back s ++ last_pairs x) (sym e) ∙ f
+
+  -- what is left of the room where a blank leaf takes the place of a full one
+  pub next_room : (leaf blank : Node K V Z) (spares left : ℕ) → length (own_pairs leaf) ≤ capacity → capacity ≤ length (own_pairs leaf) → own_pairs blank ≡ []
+      → spares ≡ left + 1 → room_behind (Some blank) left + 1 ≡ room_behind (Some leaf) spares
+  next_room leaf blank spares left few full e one = let none = ap length e in omega arith
+
+  -- and of the leaves that the limit takes
+  pub next_leaves : (leaf blank : Node K V Z) (limit less : ℕ) → length (own_pairs leaf) ≤ capacity → capacity ≤ length (own_pairs leaf) → own_pairs blank ≡ []
+      → less + 1 ≡ limit → leaves_behind (Some leaf) limit ≡ leaves_behind (Some blank) less + 1
+  next_leaves leaf blank limit less few full e one = let none = ap length e in omega arith
 
   -- ---- a builder with room in its last leaf
 
-  pub put_last : (leaf new : Node K V Z) (p : K × V) (q room less : ℕ) (s : List (Node K V Z)) → IsLast (Some leaf) q room s
-      → length (own_pairs leaf) < capacity → own_pairs new ≡ own_pairs leaf ++ p ∷ [] → IsLeaf new ↔ IsLeaf leaf → less + 1 ≡ room → IsLast (Some new) q less s
-  put_last leaf new p q room less s l few e f one =
+  pub put_room_behind : (leaf new : Node K V Z) (p : K × V) (spares : ℕ) → length (own_pairs leaf) < capacity → own_pairs new ≡ own_pairs leaf ++ p ∷ []
+      → room_behind (Some new) spares + 1 ≡ room_behind (Some leaf) spares
+  put_room_behind leaf new p spares few e = let n = ap length e ∙ length-append (own_pairs leaf) (p ∷ []) in omega arith
+
+  pub put_leaves : (leaf new : Node K V Z) (p : K × V) (limit less : ℕ) → own_pairs new ≡ own_pairs leaf ++ p ∷ [] → less + 1 ≡ limit
+      → leaves_behind (Some leaf) limit ≡ leaves_behind (Some new) less
+  put_leaves leaf new p limit less e one =
       let n = ap length e ∙ length-append (own_pairs leaf) (p ∷ []) in
-      let same : length (own_pairs leaf) + room ≡ length (own_pairs new) + less = omega arith in
-      (omega arith, f.1 l.1, l.2 ∙ ap (λ k. k / most_children) same)
+      let same : length (own_pairs leaf) + limit ≡ length (own_pairs new) + less = omega arith in
+      ap (λ k. k / most_children) same
+
+  pub put_last : (leaf new : Node K V Z) (p : K × V) (limit less : ℕ) (s : List (Node K V Z)) → IsLast (Some leaf) limit s
+      → length (own_pairs leaf) < capacity → own_pairs new ≡ own_pairs leaf ++ p ∷ [] → IsLeaf new ↔ IsLeaf leaf → IsLast (Some new) less s
+  put_last leaf new p limit less s l few e f =
+      let n = ap length e ∙ length-append (own_pairs leaf) (p ∷ []) in
+      (omega arith, f.1 l.1)
+
+-- enough leaves stay enough
+pub still_enough : (list limit room less left new : ℕ) → new ≡ list → less + 1 ≡ limit → left + 1 ≡ room → (2 ≤ list) ⊎ (limit ≤ room) → (2 ≤ new) ⊎ (less ≤ left)
+still_enough list limit room less left new same one two (inl a) = inl (omega arith)
+still_enough list limit room less left new same one two (inr a) = inr (omega arith)
 
 pub one_less : (r : ℕ) → 0 < r → r - 1 + 1 ≡ r
 one_less r some = omega arith

@@ -1,5 +1,5 @@
 -- What contracts see of a builder, and how it is laid out.
-use Rattle.std.specs.Prelude.{◌≡◌, ℕ, ◌+◌, ◌-◌, ◌/◌, ◌^◌, ◌≤◌, List, [], ◌∷◌, ◌++◌, length, Option, Some, None}
+use Rattle.std.specs.Prelude.{◌≡◌, ℕ, min, ◌+◌, ◌-◌, ◌*◌, ◌/◌, ◌^◌, ◌≤◌, ◌⊎◌, List, [], ◌∷◌, ◌++◌, length, Option, Some, None, vec_capacity}
 use Rattle.std.specs.List.{AllByRecursion}
 use Rattle.std.specs.declared.cmp.Ordering.{Ordering}
 use Rattle.std.specs.declared.cmp.Ordering.TheVariants.{Less}
@@ -11,10 +11,11 @@ use Rattle.fc_tree_build.specs.Spine.{IsSpine}
 use Rattle.fc_tree_build.specs.Spares.{IsEnough}
 use Rattle.fc_tree_build.specs.declared.builder.Builder.TheInside.{Inside}
 
--- The pairs that a builder holds, in order, and how many more it has room for.
+-- The pairs that a builder holds, in order, for how many more it has room, and for how many it has with all leaves that it can use.
 pub record Built (K V : Type 0) : Type 0 where
   pub pairs : List (K × V)
   pub room : ℕ
+  pub limit : ℕ
 
 -- The pairs of a tree that grows, in order, and for how many more its last leaf has room: for none where there is no leaf.
 pub record Grown (K V : Type 0) : Type 0 where
@@ -27,9 +28,15 @@ module _ {K V Z : Type 0} where
   last_pairs None = []
   last_pairs (Some leaf) = own_pairs leaf
 
-  -- The pairs and the room of a builder.
+  -- For how many more pairs there is room behind the last leaf, in so many spare leaves: each next leaf takes a pair between it and the
+  -- one before, and as many as it holds.
+  abbrev pub room_behind : Option (Node K V Z) → ℕ → ℕ
+  room_behind None spares = 0
+  room_behind (Some leaf) spares = (capacity - length (own_pairs leaf)) + most_children * spares
+
+  -- The pairs of a builder, and its room.
   abbrev pub built : Inside K V Z → Built K V
-  built b = record { pairs = before_back b.spine ++ last_pairs b.last; room = b.room }
+  built b = record { pairs = before_back b.spine ++ last_pairs b.last; room = min b.limit (room_behind b.last (length b.leaves.items)); limit = b.limit }
 
   -- For how many more pairs the last leaf has room, if there is one.
   abbrev pub last_room : Option (Node K V Z) → ℕ
@@ -55,14 +62,19 @@ module _ {K V : Type 0} where
   IsBehindLast cmp s k = (front : List (K × V)) × (last : K × V) × (s ≡ front ++ last ∷ []) × (cmp last.0 k ≡ Less)
 
 module _ {K V Z : Type 0} where
-  -- There are as many spare leaves as so many more pairs take behind those of the last one, and no more: each next leaf takes a pair between
-  -- it and the one before, and as many as it holds. With no leaf there is no room and nothing else.
-  abbrev pub IsLast : Option (Node K V Z) → ℕ → ℕ → List (Node K V Z) → Type 0
-  IsLast None spares room s = (room ≡ 0) × (spares ≡ 0) × (s ≡ [])
-  IsLast (Some leaf) spares room s = (length (own_pairs leaf) ≤ capacity) × IsLeaf leaf × (spares ≡ (length (own_pairs leaf) + room) / most_children)
+  -- The last leaf; with none there is no room and nothing else.
+  abbrev pub IsLast : Option (Node K V Z) → ℕ → List (Node K V Z) → Type 0
+  IsLast None limit s = (limit ≡ 0) × (s ≡ [])
+  IsLast (Some leaf) limit s = (length (own_pairs leaf) ≤ capacity) × IsLeaf leaf
 
-  -- The tree so far stands above the last leaf, and there are just as many spare nodes as the room takes.
+  -- How many leaves so many more pairs take behind those of the last one.
+  abbrev pub leaves_behind : Option (Node K V Z) → ℕ → ℕ
+  leaves_behind last limit = (length (last_pairs last) + limit) / most_children
+
+  -- The tree so far stands above the last leaf. There are just as many spare inner nodes as the limit takes, and as many leaves, unless
+  -- there is room for two of them.
   abbrev pub IsBuilder : Inside K V Z → Type 0
-  IsBuilder b = IsLast b.last (length b.leaves.items) b.room b.spine × IsSpine 0 b.spine
+  IsBuilder b = IsLast b.last b.limit b.spine × IsSpine 0 b.spine
+      × ((2 ≤ vec_capacity b.leaves) ⊎ (b.limit ≤ room_behind b.last (length b.leaves.items)))
       × AllByRecursion (λ n. IsBlankLeaf n) b.leaves.items × AllByRecursion (λ n. IsBlankInner n) b.inner.items
-      × IsEnough (length b.inner.items) (length b.leaves.items) b.spine
+      × IsEnough (length b.inner.items) (leaves_behind b.last b.limit) b.spine

@@ -1,5 +1,7 @@
 //! A tree made of pairs in order, with all of its memory taken before the first.
-ghost use Rattle.std.specs.Prelude.{◌≡◌, ◌+◌, ◌<◌, [], ◌∷◌, ◌++◌, IfOk, IfErr, IsOk};
+ghost use Rattle.std.specs.Prelude.{◌≡◌, min, ◌+◌, ◌-◌, ◌*◌, ◌<◌, ◌≤◌, ◌⊎◌, [], ◌∷◌, ◌++◌, IfOk, IfErr, IsOk};
+ghost use Rattle.fc_base.specs.Sizes.{most_children};
+ghost use Rattle.fc_tree_node.specs.Node.{IsBlankLeaf};
 ghost use Rattle.fc_tree_node.specs.Tree.{entries, IsSoundMap};
 
 use crate::spares::{inner_count, leaf_count, take_spare, try_inner_nodes, try_leaves};
@@ -12,15 +14,19 @@ use std::alloc::Global;
 use std::marker::Model;
 use std::mem;
 
+// How many leaves are made where more are given later: what is left of two open leaves fits in them.
+const MADE_LEAVES: usize = 2;
+
 /// A tree that is made of pairs from the first on, each put at its end: leaves and inner nodes are full, but those on the right
-/// edge. All nodes are made before the first pair. A contract sees the pairs, and for how many more there is room.
+/// edge. All inner nodes are made before the first pair, and the leaves too, unless more are given later. A contract sees the pairs, for how
+/// many more there is room, and for how many there is once enough leaves are given.
 #[derive(Drop)]
 pub struct Builder<K, V, A: Handle = Global> {
     spine: Spine<K, V, A>,
     last: Option<Node<K, V, A>>,
     leaves: Vec<Node<K, V, A>, A>,
     inner: Vec<Node<K, V, A>, A>,
-    room: usize,
+    limit: usize,
 }
 
 impl<K, V, A: Handle> Model for Builder<K, V, A> {
@@ -38,7 +44,18 @@ impl<K, V, A: Handle> Builder<K, V, A> {
     pub fn room(&self) -> usize
         ensures { result ≡ self.now.room }
     {
-        self.room
+        let Some(last) = &self.last else {
+            return 0;
+        };
+        let spare = self.leaves.len().saturating_mul(CAPACITY + 1);
+        spare.saturating_add(CAPACITY - last.len()).min(self.limit)
+    }
+
+    /// For how many more pairs there is room once enough leaves are given.
+    pub fn limit(&self) -> usize
+        ensures { result ≡ self.now.limit }
+    {
+        self.limit
     }
 }
 
@@ -48,11 +65,39 @@ impl<K: Drop, V: Drop, A: Handle> Builder<K, V, A> {
     /// # Errors
     /// `AllocError` if one of them or a list of them is refused, never where `n` is 0. Nothing is then left after.
     pub fn try_new(alloc: A, n: usize) -> Result<Builder<K, V, A>, TryReserveError>
-        ensures ok { IfOk result (λ b. (b.pairs ≡ []) × (b.room ≡ n)) }
+        ensures ok { IfOk result (λ b. (b.pairs ≡ []) × (b.room ≡ n) × (b.limit ≡ n)) }
         ensures error { IfErr result (λ e. e ≡ TryReserveError.AllocError) }
         ensures none { n ≡ 0 → IsOk result }
     {
-        let mut leaves = try_leaves(alloc, leaf_count(n))?;
+        Self::try_with_leaves(alloc, n, leaf_count(n))
+    }
+
+    /// A builder of no pair with room for `n` once leaves are given to it: each inner node that they can need is made now, and just two
+    /// leaves, or one where it can need no more.
+    ///
+    /// # Errors
+    /// `AllocError` if one of them or a list of them is refused, never where `n` is 0. Nothing is then left after.
+    pub fn try_for_given_leaves(alloc: A, n: usize) -> Result<Builder<K, V, A>, TryReserveError>
+        ensures ok { IfOk result (λ b. (b.pairs ≡ []) × (b.limit ≡ n) × (b.room ≡ min n (2 * most_children - 1))) }
+        ensures error { IfErr result (λ e. e ≡ TryReserveError.AllocError) }
+        ensures none { n ≡ 0 → IsOk result }
+    {
+        Self::try_with_leaves(alloc, n, leaf_count(n).min(MADE_LEAVES))
+    }
+
+    // A builder of no pair, with so many leaves and the inner nodes that `n` pairs can need.
+    fn try_with_leaves(
+        alloc: A,
+        n: usize,
+        count: usize,
+    ) -> Result<Builder<K, V, A>, TryReserveError>
+        requires enough { (2 ≤ count) ⊎ (n ≤ most_children * count - 1) }
+        requires none { n ≡ 0 → count ≡ 0 }
+        ensures ok { IfOk result (λ b. (b.pairs ≡ []) × (b.limit ≡ n) × (b.room ≡ min n (most_children * count - 1))) }
+        ensures error { IfErr result (λ e. e ≡ TryReserveError.AllocError) }
+        ensures none { n ≡ 0 → IsOk result }
+    {
+        let mut leaves = try_leaves(alloc, count)?;
         let inner = try_inner_nodes(alloc, inner_count(n))?;
         let last = leaves.pop();
         Ok(Builder {
@@ -60,8 +105,21 @@ impl<K: Drop, V: Drop, A: Handle> Builder<K, V, A> {
             last,
             leaves,
             inner,
-            room: n,
+            limit: n,
         })
+    }
+
+    /// Takes a leaf that holds nothing, for pairs to come. Where two wait already it is dropped.
+    pub fn give_leaf(&mut self, leaf: Node<K, V, A>)
+        requires { IsBlankLeaf leaf }
+        ensures pairs { self.new.pairs ≡ self.old.pairs }
+        ensures limit { self.new.limit ≡ self.old.limit }
+        ensures kept { self.old.room ≤ self.new.room }
+        ensures room { min self.old.limit (min (self.old.room + most_children) (2 * most_children)) ≤ self.new.room }
+    {
+        if self.leaves.len() < self.leaves.capacity() {
+            let _kept = self.leaves.push(leaf);
+        }
     }
 
     /// Puts the pair after the others. It takes no memory, moves no other pair and compares nothing.
@@ -69,8 +127,9 @@ impl<K: Drop, V: Drop, A: Handle> Builder<K, V, A> {
         requires { 0 < self.old.room }
         ensures pairs { self.new.pairs ≡ self.old.pairs ++ pair ∷ [] }
         ensures room { self.new.room + 1 ≡ self.old.room }
+        ensures limit { self.new.limit + 1 ≡ self.old.limit }
     {
-        self.room -= 1;
+        self.limit -= 1;
         let Some(last) = &mut self.last else {
             unreachable!()
         };
@@ -92,7 +151,7 @@ impl<K: Drop, V: Drop, A: Handle> Builder<K, V, A> {
             last,
             leaves,
             inner,
-            room: _,
+            limit: _,
         } = self;
         drop(leaves);
         drop(inner);

@@ -1,5 +1,5 @@
 //! Nodes that hold nothing, all made before the first is used.
-ghost use Rattle.std.specs.Prelude.{◌≡◌, ℕ, ◌^◌, ◌<◌, ◌≤◌, [], ◌∷◌, ◌++◌, length, IfOk, IfErr, IsOk};
+ghost use Rattle.std.specs.Prelude.{◌≡◌, ℕ, ◌^◌, ◌<◌, ◌≤◌, [], ◌∷◌, ◌++◌, length, IfOk, IfErr, IsOk, vec_capacity};
 ghost use Rattle.std.specs.List.{AllByRecursion};
 ghost use Rattle.fc_base.specs.Sizes.{most_children};
 ghost use Rattle.fc_tree_node.specs.Node.{IsBlankLeaf, IsBlankInner};
@@ -17,6 +17,7 @@ pub(crate) fn try_leaves<K: Drop, V: Drop, A: Handle>(
     count: usize,
 ) -> Result<Vec<Node<K, V, A>, A>, TryReserveError>
     ensures ok { IfOk result (λ v. (length v.items ≡ count) × AllByRecursion (λ b. IsBlankLeaf b) v.items) }
+    ensures capacity { IfOk result (λ v. count ≤ vec_capacity v) }
     ensures error { IfErr result (λ e. e ≡ TryReserveError.AllocError) }
     ensures none { count ≡ 0 → IsOk result }
 {
@@ -49,7 +50,8 @@ pub(crate) fn try_inner_nodes<K: Drop, V: Drop, A: Handle>(
 /// Takes one of the nodes out.
 pub(crate) fn take_spare<K, V, A: Handle>(spares: &mut Vec<Node<K, V, A>, A>) -> Node<K, V, A>
     requires { 0 < length spares.old.items }
-    ensures { spares.old.items ≡ spares.new.items ++ result ∷ [] }
+    ensures items { spares.old.items ≡ spares.new.items ++ result ∷ [] }
+    ensures capacity { vec_capacity spares.new ≡ vec_capacity spares.old }
 {
     let Some(node) = spares.pop() else {
         unreachable!()

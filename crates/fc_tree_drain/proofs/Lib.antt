@@ -1,4 +1,5 @@
 pub mod Cells
 pub mod Ends
+pub mod LeafFronts
 pub mod Opening
 pub mod Sizes

@@ -3,14 +3,15 @@ use Rattle.std.proofs.Common.{◌≡◌, ℕ, zero, suc, ◌+◌, ◌-◌, ◌<�
 use Rattle.std.proofs.Common.{append-nil, length-append}
 use Rattle.std.specs.List.{AllByRecursion}
 use Rattle.std.proofs.lemmas.List.{length-map, map-append, nil_from_length}
-use Rattle.fc_base.specs.Sizes.{most_levels}
+use Rattle.fc_base.specs.Sizes.{capacity, most_levels}
 use Rattle.fc_tree_node.specs.declared.node.Node.{Node}
 use Rattle.fc_tree_node.specs.Node.{own_pairs, children_of, pairs_of, IsInner, IsLevelled, IsSound, IsSoundRoot}
 use Rattle.fc_tree_node.specs.Weave.{weave, before_list, after_list}
-use Rattle.fc_tree_node.proofs.Lists.{all_front, all_back}
+use Rattle.fc_tree_node.proofs.Lists.{all_both, all_front, all_back}
 use Rattle.fc_tree_node.proofs.Pairs.{pairs_is, leaf_children}
+use Rattle.fc_tree_node.proofs.Sizes.{level_size}
 use Rattle.fc_tree_node.proofs.Weaves.{weave_at, after_nil}
-use Rattle.fc_tree_drain.specs.Opened.{closing, AreBelow, IsOpened, IsFalling, IsUnder, after_front_in, before_back_in, after_front, before_back}
+use Rattle.fc_tree_drain.specs.Opened.{closing, AreBelow, IsOpened, IsFalling, AreEven, IsUnder, after_front_in, before_back_in, after_front, before_back}
 
 module _ {X : Type 0} where
   before_own_more : (ps : List X) (p : X) (cs : List (List X)) (c : List X) → length cs ≡ length ps
@@ -235,6 +236,18 @@ module _ {K V Z : Type 0} where
 
   pub under_levels : (n : Node K V Z) (s : List (Node K V Z)) → IsUnder n s → IsFalling 0 most_levels s
   under_levels n s u = falling_low (suc u.0) 0 most_levels s (omega arith) u.2
+
+  pub under_few : (n : Node K V Z) (s : List (Node K V Z)) → IsUnder n s → length (own_pairs n) ≤ capacity
+  under_few n s u = level_size u.0 n u.1.1
+
+  -- without its first child it has as many children as pairs
+  pub first_even : (n c : Node K V Z) (s : List (Node K V Z)) (b : Node K V Z) → IsUnder n s → children_of n ≡ c ∷ children_of b → own_pairs b ≡ own_pairs n
+      → length (children_of b) ≡ length (own_pairs b)
+  first_even n c s b u d e =
+      let some = ap length d in
+      let same = ap length e in
+      let inner = levelled_inner u.0 n u.1.1 (omega arith) in
+      omega arith
 
   -- the other children and the pairs, with the child under them
   under_parted : (n c : Node K V Z) (s new : List (Node K V Z)) (b : Node K V Z) → (u : IsUnder n s) → IsParted u.0 c (children_of b)
@@ -461,3 +474,15 @@ module _ {K V Z : Type 0} where
       → new ≡ after_front_in n
   back_parted back mid new n d c z v i j k l =
       l ∙ ap (λ zs. zs ++ pairs_of c) (back_push back mid d k ∙ ap (λ zs. zs ++ before_back_in d) (back_none back z)) ∙ sym (over_back n d c v.same i j)
+
+  -- ---- nodes that end with a child
+
+  pub even_push : (s new : List (Node K V Z)) (b : Node K V Z) → new ≡ s ++ b ∷ [] → length (children_of b) ≡ length (own_pairs b) → AreEven s → AreEven new
+  even_push s new b e l a = subst AreEven (sym e) (all_both (λ n. length (children_of n) ≡ length (own_pairs n)) s (b ∷ []) a (l, tt))
+
+  -- the node on the top, and those below it
+  pub even_pop : (old s : List (Node K V Z)) (b : Node K V Z) → old ≡ s ++ b ∷ [] → AreEven old → AreEven s × (length (children_of b) ≡ length (own_pairs b))
+  even_pop old s b e a =
+      let P : Node K V Z → Type 0 = λ n. length (children_of n) ≡ length (own_pairs n) in
+      let f = subst AreEven e a in
+      (all_front P s (b ∷ []) f, (all_back P s (b ∷ []) f).0)

@@ -12,6 +12,7 @@ use Rattle.std.specs.declared.alloc.Allocator.{Ghosts}
 use Rattle.std.specs.Mem.{type_size}
 use Rattle.fc_tree_node.specs.contracts.node.Node as node
 use Rattle.fc_tree_drain.specs.contracts.stack.Stack as stack
+use Rattle.fc_tree_drain.specs.contracts.leaf_front.LeafFront as leaf_front
 use Rattle.fc_tree_drain.specs.contracts.drain.Front as front
 use Rattle.fc_tree_drain.specs.contracts.drain.Back as back
 use Rattle.fc_tree_drain.specs.contracts.drain.IntoPairs as drain
@@ -143,6 +144,10 @@ module _ (K V A : RattleType) (heap : Ghosts A.Denot) (h : type_size A < 65536) 
   -- the front of a tree that is taken apart,
   pub front_fits : size (layout (front.the_row K V (copied 2 A) heap)) < 2 ^ 63
   front_fits = below (bound_holds front_shape (layout (front.the_row K V (copied 2 A) heap)) (search (low, tt) depth 40)) (lit< tt)
+
+  -- one that hands out its leaves,
+  pub leaf_front_fits : size (layout (leaf_front.the_row K V (copied 2 A) heap)) < 2 ^ 63
+  leaf_front_fits = below (bound_holds front_shape (layout (leaf_front.the_row K V (copied 2 A) heap)) (search (low, tt) depth 40)) (lit< tt)
 
   -- its back,
   pub back_fits : size (layout (back.the_row K V (copied 2 A) heap)) < 2 ^ 63

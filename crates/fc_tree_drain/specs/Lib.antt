@@ -1,2 +1,3 @@
+pub mod LeafFront
 pub mod Opened
 pub mod Stack

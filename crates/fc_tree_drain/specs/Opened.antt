@@ -34,6 +34,10 @@ module _ {K V Z : Type 0} where
   IsFalling low high [] = low ≤ high
   IsFalling low high (b ∷ s) = (h : ℕ) × (h < high) × (0 < length (own_pairs b)) × IsOpened h b × IsFalling low h s
 
+  -- Each node begins with a pair and ends with a child, as one does of which nothing was taken from its back.
+  abbrev pub AreEven : List (Node K V Z) → Type 0
+  AreEven s = AllByRecursion (λ b. length (children_of b) ≡ length (own_pairs b)) s
+
   -- The node is a sound root at a level below the stack.
   abbrev pub IsUnder : Node K V Z → List (Node K V Z) → Type 0
   IsUnder n s = (h : ℕ) × IsSoundRoot h n × IsFalling (suc h) most_levels s

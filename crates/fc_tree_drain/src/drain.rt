@@ -5,7 +5,8 @@ ghost use Rattle.fc_tree_node.specs.Tree.{entries, IsSoundMap};
 ghost use Rattle.fc_tree_drain.specs.Opened.{after_front, before_back};
 
 use crate::owned::{
-    Nodes, Run, move_to_back, move_to_front, open_first, pop_first_pair, pop_last_pair,
+    Nodes, Run, first_of, move_to_back, move_to_front, open_first, pop_first_pair, pop_last_pair,
+    run_len, take_first,
 };
 use crate::stack::Stack;
 use fc_base::Handle;
@@ -69,38 +70,6 @@ impl<K, V, A: Handle> Model for IntoPairs<K, V, A> {
     ghost Value = { List (K × V) };
 
     ghost view = { λ d. d.front ++ d.back };
-}
-
-// How many pairs are left of a leaf.
-fn run_len<K, V, A: Handle>(run: &Run<K, V, A>) -> usize
-    ensures { result ≡ length (items_or_none run.now) }
-{
-    match run {
-        None => 0,
-        Some(rest) => rest.len(),
-    }
-}
-
-// The first pair that is left of a leaf.
-fn first_of<K, V, A: Handle>(run: &Run<K, V, A>) -> &(K, V)
-    requires { 0 < length (items_or_none run.now) }
-    ensures { (rest : List (K × V)) × (items_or_none run.now ≡ result.now ∷ rest) }
-{
-    match run {
-        None => unreachable!(),
-        Some(rest) => rest.get(0),
-    }
-}
-
-// Takes the first pair that is left of a leaf.
-fn take_first<K, V, A: Handle>(run: &mut Run<K, V, A>) -> (K, V)
-    requires { 0 < length (items_or_none run.old) }
-    ensures { items_or_none run.old ≡ result ∷ items_or_none run.new }
-{
-    match run {
-        None => unreachable!(),
-        Some(rest) => rest.take_first(),
-    }
 }
 
 // Takes the last pair that is left of a leaf.

@@ -2,5 +2,6 @@
 #![tactic(auto)]
 
 pub mod drain;
+pub mod leaf_front;
 pub mod owned;
 pub mod stack;

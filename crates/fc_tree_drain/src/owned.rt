@@ -1,8 +1,8 @@
 //! Nodes taken apart from their ends: opened down to a leaf, whose pairs become a run, and a pair given out of the node on the top.
-ghost use Rattle.std.specs.Prelude.{◌≡◌, ℕ, suc, ◌<◌, [], ◌∷◌, ◌++◌, length};
-ghost use Rattle.fc_base.specs.Sizes.{most_levels};
-ghost use Rattle.fc_tree_node.specs.Node.{own_pairs, pairs_of, items_or_none};
-ghost use Rattle.fc_tree_drain.specs.Opened.{IsOpened, IsFalling, IsUnder, after_front_in, before_back_in, after_front, before_back};
+ghost use Rattle.std.specs.Prelude.{◌≡◌, ℕ, suc, ◌<◌, ◌≤◌, List, [], ◌∷◌, ◌++◌, length, IsSome};
+ghost use Rattle.fc_base.specs.Sizes.{capacity, most_levels};
+ghost use Rattle.fc_tree_node.specs.Node.{own_pairs, children_of, pairs_of, items_or_none};
+ghost use Rattle.fc_tree_drain.specs.Opened.{IsOpened, IsFalling, AreEven, IsUnder, after_front_in, before_back_in, after_front, before_back};
 
 use crate::stack::Stack;
 use fc_base::Handle;
@@ -15,6 +15,39 @@ pub type Nodes<K, V, A: Handle = Global> = Stack<Node<K, V, A>>;
 
 /// What is left of a leaf's pairs.
 pub type Run<K, V, A: Handle = Global> = Option<Rest<(K, V), CAPACITY, A>>;
+
+// How many pairs are left of a leaf.
+pub(crate) fn run_len<K, V, A: Handle>(run: &Run<K, V, A>) -> usize
+    ensures { result ≡ length (items_or_none run.now) }
+{
+    match run {
+        None => 0,
+        Some(rest) => rest.len(),
+    }
+}
+
+// The first pair that is left of a leaf.
+pub(crate) fn first_of<K, V, A: Handle>(run: &Run<K, V, A>) -> &(K, V)
+    requires { 0 < length (items_or_none run.now) }
+    ensures { (rest : List (K × V)) × (items_or_none run.now ≡ result.now ∷ rest) }
+{
+    match run {
+        None => unreachable!(),
+        Some(rest) => rest.get(0),
+    }
+}
+
+// Takes the first pair that is left of a leaf.
+pub(crate) fn take_first<K, V, A: Handle>(run: &mut Run<K, V, A>) -> (K, V)
+    requires { 0 < length (items_or_none run.old) }
+    ensures pairs { items_or_none run.old ≡ result ∷ items_or_none run.new }
+    ensures kept { IsSome run.new }
+{
+    match run {
+        None => unreachable!(),
+        Some(rest) => rest.take_first(),
+    }
+}
 
 // The pairs of a node that has no child. Nothing else of it is left.
 fn into_run<K: Drop, V: Drop, A: Handle>(node: Node<K, V, A>) -> Run<K, V, A>
@@ -34,6 +67,8 @@ pub fn open_first<K: Drop, V: Drop, A: Handle>(
     ensures pairs { items_or_none run.new ++ after_front stack.new ≡ pairs_of node ++ after_front stack.old }
     ensures levels { IsFalling 0 most_levels stack.new }
     ensures some { 0 < length (items_or_none run.new) }
+    ensures fits { length (items_or_none run.new) ≤ capacity }
+    ensures even { AreEven stack.old → AreEven stack.new }
 {
     let mut node = node;
     if node.child_count() == 0 {
@@ -72,6 +107,7 @@ fn keep<K: Drop, V: Drop, A: Handle>(stack: &mut Nodes<K, V, A>, node: Node<K, V
     ensures front { after_front stack.new ≡ after_front_in node ++ after_front stack.old }
     ensures back { before_back stack.new ≡ before_back stack.old ++ before_back_in node }
     ensures levels { (h : ℕ) → IsOpened h node → IsFalling (suc h) most_levels stack.old → IsFalling h most_levels stack.new }
+    ensures even { length (children_of node) ≡ length (own_pairs node) → AreEven stack.old → AreEven stack.new }
 {
     if node.len() == 0 {
         return;
@@ -90,6 +126,10 @@ pub fn pop_first_pair<K: Drop, V: Drop, A: Handle>(
     requires used_up { items_or_none run.old ≡ [] }
     ensures pairs { after_front stack.old ≡ result ∷ (items_or_none run.new ++ after_front stack.new) }
     ensures levels { IsFalling 0 most_levels stack.new }
+    ensures fits { length (items_or_none run.new) ≤ capacity }
+
+    // Where nothing was taken from the back, the next leaf is opened.
+    ensures even { AreEven stack.old → AreEven stack.new × (0 < length (items_or_none run.new)) }
 {
     let mut node = stack.pop();
     let pair = node.take_first_pair();

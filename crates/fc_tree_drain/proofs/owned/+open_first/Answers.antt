@@ -2,7 +2,7 @@ use Rattle.std.proofs.Common.{rules, arith, ◌-◌, ◌<◌, ◌++◌, length, 
 use Rattle.std.proofs.lemmas.List.{nil_from_length}
 use Rattle.fc_base.specs.Sizes.{most_levels}
 use Rattle.fc_tree_drain.specs.Opened.{after_front}
-use Rattle.fc_tree_drain.proofs.Opening.{under_room, under_levels, under_first, first_opened, leaf_own}
+use Rattle.fc_tree_drain.proofs.Opening.{under_room, under_levels, under_first, first_opened, leaf_own, under_few, first_even, even_push}
 use Rattle.fc_tree_drain.proofs.owned.+open_first.Goals as goal
 
 pub returns-then-child_count-eq0-clause-pairs : goal.returns-then-child_count-eq0-clause-pairs
@@ -30,3 +30,14 @@ pub returns-clause-pairs : goal.returns-clause-pairs
 returns-clause-pairs g t c =
     first_opened c.args.node _ _ _ _ _ c.take_first_child-child.ensures.children c.take_first_child-child.ensures.pairs c.push.ensures
     c.open_first.ensures.pairs
+
+pub returns-then-child_count-eq0-clause-fits : goal.returns-then-child_count-eq0-clause-fits
+returns-then-child_count-eq0-clause-fits g t c =
+    let e = ap length c.into_run.ensures in
+    let few = under_few c.args.node _ c.requires in
+    omega arith
+
+pub returns-clause-even : goal.returns-clause-even
+returns-clause-even g t c a =
+    let q = c.take_first_child-child.ensures in
+    c.open_first.ensures.even (even_push c.args.stack.now _ _ c.push.ensures (first_even c.args.node _ _ _ c.requires q.children q.pairs) a)

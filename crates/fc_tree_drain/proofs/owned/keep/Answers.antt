@@ -1,5 +1,5 @@
 use Rattle.std.proofs.Common.{rules, arith}
-use Rattle.fc_tree_drain.proofs.Opening.{keep_room, kept, dropped, empty_front, empty_back, front_push, back_push}
+use Rattle.fc_tree_drain.proofs.Opening.{keep_room, kept, dropped, empty_front, empty_back, front_push, back_push, even_push}
 use Rattle.fc_tree_drain.proofs.owned.keep.Goals as goal
 
 pub returns-then-len-eq0-clause-front : goal.returns-then-len-eq0-clause-front
@@ -25,3 +25,6 @@ returns-clause-back g c = back_push _ _ _ c.push.ensures
 pub returns-clause-levels : goal.returns-clause-levels
 returns-clause-levels g c h o f =
     kept _ _ _ (omega arith) c.push.ensures h o f
+
+pub returns-clause-even : goal.returns-clause-even
+returns-clause-even g c l a = even_push c.args.stack.now _ _ c.push.ensures l a

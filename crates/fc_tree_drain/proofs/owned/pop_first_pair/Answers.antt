@@ -1,6 +1,6 @@
-use Rattle.std.proofs.Common.{rules, arith, ◌∷◌, ◌++◌, sym, ap, ◌∙◌}
+use Rattle.std.proofs.Common.{rules, arith, length, ◌∷◌, ◌++◌, sym, ap, ◌∙◌}
 use Rattle.fc_tree_drain.specs.Opened.{after_front}
-use Rattle.fc_tree_drain.proofs.Opening.{top_some, IsGiven, given_leaf, given_first, given_under, kept_levels, gave_first, gave_first_alone}
+use Rattle.fc_tree_drain.proofs.Opening.{top_some, IsGiven, given_leaf, given_first, given_under, kept_levels, gave_first, gave_first_alone, even_pop}
 use Rattle.fc_tree_drain.proofs.owned.pop_first_pair.Given as given
 use Rattle.fc_tree_drain.proofs.owned.pop_first_pair.Goals as goal
 use Rattle.fc_tree_drain.proofs.owned.pop_first_pair.Goals.{After-take_first_child-child}
@@ -45,3 +45,24 @@ returns-clause-pairs g c =
     let q = c.take_first_child-child.ensures in
     gave_first c.args.stack.now _ c.keep-2.new.stack _ _ _ _ _ c.take_first_pair-pair.result c.pop-node.ensures p.pairs p.children q.children q.pairs
     c.keep-2.ensures.front c.open_first.ensures.pairs
+
+pub returns-then-child_count-eq0-clause-fits : goal.returns-then-child_count-eq0-clause-fits
+returns-then-child_count-eq0-clause-fits g c = let none = ap length c.requires.used_up in omega arith
+
+pub returns-then-child_count-eq0-clause-even : goal.returns-then-child_count-eq0-clause-even
+returns-then-child_count-eq0-clause-even g c a =
+    let some = top_some _ _ _ c.requires.levels c.pop-node.ensures in
+    let same = (even_pop _ _ _ c.pop-node.ensures a).1 in
+    let child = ap length c.take_first_pair-pair.ensures.children in
+    absurd (omega arith)
+
+pub returns-clause-even : goal.returns-clause-even
+returns-clause-even g c a =
+    let even = even_pop _ _ _ c.pop-node.ensures a in
+    let p = c.take_first_pair-pair.ensures in
+    let q = c.take_first_child-child.ensures in
+    let pairs = ap length p.pairs in
+    let children = ap length p.children in
+    let child = ap length q.children in
+    let same = ap length q.pairs in
+    (c.open_first.ensures.even (c.keep-2.ensures.even (omega arith) even.0), c.open_first.ensures.some)
