@@ -25,16 +25,16 @@ invariant_of-result g c =
     let s = c.match-root in
     elim s.branch [
       | in-Some w ↦ (
-          subst (IsFalling 0 most_levels) (sym w.nodes-is) w.open_first.ensures.levels,
-          subst AreEven (sym w.nodes-is) (w.open_first.ensures.even (subst AreEven (sym c.new-nodes.ensures) tt)),
-          some_leaf s.run s.nodes (inl (subst (λ r. 0 < length (items_or_none r)) (sym w.run-is) w.open_first.ensures.some)),
-          subst (λ r. length (items_or_none r) ≤ capacity) (sym w.run-is) w.open_first.ensures.fits,
-        )
+        subst (IsFalling 0 most_levels) (sym w.nodes-is) w.open_first.ensures.levels,
+        subst AreEven (sym w.nodes-is) (w.open_first.ensures.even (subst AreEven (sym c.new-nodes.ensures) tt)),
+        some_leaf s.run s.nodes (inl (subst (λ r. 0 < length (items_or_none r)) (sym w.run-is) w.open_first.ensures.some)),
+        subst (λ r. length (items_or_none r) ≤ capacity) (sym w.run-is) w.open_first.ensures.fits,
+      )
       | in_default w ↦ (
           let none = w.nodes-is ∙ c.new-nodes.ensures in
           let few = ap (λ r. length (items_or_none r)) w.run-is in
           (subst (IsFalling 0 most_levels) (sym none) (omega arith), subst AreEven (sym none) tt, some_leaf s.run s.nodes (inr none), omega arith)
-        )
+          )
     ]
 
 pub returns-clause-leaf : goal.returns-clause-leaf
