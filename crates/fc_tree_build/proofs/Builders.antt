@@ -1,6 +1,7 @@
 -- A new builder, and one whose last leaf was full.
 use Rattle.std.proofs.Common.{◌≡◌, ℕ, zero, suc, ◌+◌, ◌-◌, ◌*◌, ◌/◌, ◌^◌, ◌<◌, ◌≤◌, ◌⊎◌, inl, inr, min, List, [], ◌∷◌, ◌++◌, length, refl, sym, ap, ◌∙◌, subst, arith, append_assoc}
 use Rattle.std.proofs.Common.{append-nil, length-append, Option, Some, None, ◌↔◌}
+use Rattle.std.proofs.lemmas.Bool.{cases_lt}
 use Rattle.std.specs.Option.{option_to_list}
 use Rattle.std.specs.List.{AllByRecursion}
 use Rattle.fc_base.specs.Sizes.{capacity, most_children, most_levels}
@@ -23,6 +24,35 @@ less_room a b c d e f = omega arith
 
 pub some_room : (a b r : ℕ) → min a b ≡ r → 0 < r → (0 < a) × (0 < b)
 some_room a b r e some = (omega arith, omega arith)
+
+pub leaves_enough : (n : ℕ) → n ≤ most_children * leaves_for n - 1
+leaves_enough zero = omega arith
+leaves_enough (suc n) = let some : leaves_for (suc n) ≡ suc n / most_children + 1 = refl in omega arith
+
+pub leaves_none : (n : ℕ) → n ≡ 0 → leaves_for n ≡ 0
+leaves_none zero e = refl
+leaves_none (suc n) e = absurd (omega arith)
+
+-- two leaves, or enough where they are fewer
+pub made_enough : (n leaves made : ℕ) → leaves ≡ leaves_for n → made ≡ min leaves 2 → (2 ≤ made) ⊎ (n ≤ most_children * made - 1)
+made_enough n leaves made e f = within (cases_lt leaves 2)
+  where
+    within : (leaves < 2) ⊎ (2 ≤ leaves) → (2 ≤ made) ⊎ (n ≤ most_children * made - 1)
+    within (inl few) = let all = leaves_enough n in inr (omega arith)
+    within (inr two) = inl (omega arith)
+
+pub made_room : (n leaves made : ℕ) → leaves ≡ leaves_for n → made ≡ min leaves 2 → min n (most_children * made - 1) ≡ min n (2 * most_children - 1)
+made_room n leaves made e f = let all = leaves_enough n in omega arith
+
+-- with two leaves, or with enough for so many pairs: where there is none there is no pair
+pub no_pair : (count n : ℕ) → (2 ≤ count) ⊎ (n ≤ most_children * count - 1) → count ≡ 0 → n ≡ 0
+no_pair count n (inl two) none = absurd (omega arith)
+no_pair count n (inr all) none = omega arith
+
+-- and their list has room for two
+pub first_two : (count n list room : ℕ) → count ≤ list → room ≡ most_children * count - 1 → (2 ≤ count) ⊎ (n ≤ most_children * count - 1) → (2 ≤ list) ⊎ (n ≤ room)
+first_two count n list room few behind (inl two) = inl (omega arith)
+first_two count n list room few behind (inr all) = inr (omega arith)
 
 module _ {K V Z : Type 0} where
   pub leaf_taken : (old new : List (Node K V Z)) (b : Node K V Z) → old ≡ new ++ b ∷ [] → AllByRecursion (λ x. IsBlankLeaf x) old
@@ -124,6 +154,31 @@ module _ {K V Z : Type 0} where
   put_last leaf new p limit less s l few e f =
       let n = ap length e ∙ length-append (own_pairs leaf) (p ∷ []) in
       (omega arith, f.1 l.1)
+
+  -- ---- a builder that is given a leaf
+
+  pub kept_room : (o : Option (Node K V Z)) (limit room spares more : ℕ) → min limit (room_behind o spares) ≡ room → more ≡ spares + 1
+      → room ≤ min limit (room_behind o more)
+  kept_room None limit room spares more e one = omega arith
+  kept_room (Some leaf) limit room spares more e one = omega arith
+
+  pub more_room : (o : Option (Node K V Z)) (limit room spares more : ℕ) (s : List (Node K V Z)) → IsLast o limit s → min limit (room_behind o spares) ≡ room
+      → more ≡ spares + 1 → min limit (min (room + most_children) (2 * most_children)) ≤ min limit (room_behind o more)
+  more_room None limit room spares more s l e one = let none = l.0 in omega arith
+  more_room (Some leaf) limit room spares more s l e one = omega arith
+
+  pub two_more : (o : Option (Node K V Z)) (limit spares more list new : ℕ) → more ≡ spares + 1 → list ≤ new → (2 ≤ list) ⊎ (limit ≤ room_behind o spares)
+      → (2 ≤ new) ⊎ (limit ≤ room_behind o more)
+  two_more o limit spares more list new one same (inl a) = inl (omega arith)
+  two_more None limit spares more list new one same (inr a) = inr a
+  two_more (Some leaf) limit spares more list new one same (inr a) = inr (omega arith)
+
+  -- where two wait, or there are enough, one more is of no use
+  pub full_room : (o : Option (Node K V Z)) (limit room spares list : ℕ) (s : List (Node K V Z)) → IsLast o limit s → min limit (room_behind o spares) ≡ room
+      → list ≤ spares → (2 ≤ list) ⊎ (limit ≤ room_behind o spares) → min limit (min (room + most_children) (2 * most_children)) ≤ room
+  full_room None limit room spares list s l e few a = let none = l.0 in omega arith
+  full_room (Some leaf) limit room spares list s l e few (inl a) = omega arith
+  full_room (Some leaf) limit room spares list s l e few (inr a) = omega arith
 
 -- enough leaves stay enough
 pub still_enough : (list limit room less left new : ℕ) → new ≡ list → less + 1 ≡ limit → left + 1 ≡ room → (2 ≤ list) ⊎ (limit ≤ room) → (2 ≤ new) ⊎ (less ≤ left)

@@ -4,7 +4,9 @@ ghost use Rattle.fc_base.specs.Sizes.{most_children};
 ghost use Rattle.fc_tree_node.specs.Node.{IsBlankLeaf};
 ghost use Rattle.fc_tree_node.specs.Tree.{entries, IsSoundMap};
 
-use crate::spares::{inner_count, leaf_count, take_spare, try_inner_nodes, try_leaves};
+use crate::spares::{
+    inner_count, leaf_count, put_spare, take_spare, try_inner_nodes, try_leaves,
+};
 use crate::spine::{Spine, attach, close, put_pair};
 use fc_base::{Handle, TryReserveError};
 use fc_tree_drain::stack::Stack;
@@ -118,7 +120,9 @@ impl<K: Drop, V: Drop, A: Handle> Builder<K, V, A> {
         ensures room { min self.old.limit (min (self.old.room + most_children) (2 * most_children)) ≤ self.new.room }
     {
         if self.leaves.len() < self.leaves.capacity() {
-            let _kept = self.leaves.push(leaf);
+            put_spare(&mut self.leaves, leaf);
+        } else {
+            drop(leaf);
         }
     }
 

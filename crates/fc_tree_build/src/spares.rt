@@ -59,6 +59,20 @@ pub(crate) fn take_spare<K, V, A: Handle>(spares: &mut Vec<Node<K, V, A>, A>) ->
     node
 }
 
+/// Puts a node among the others, in room that there is.
+pub(crate) fn put_spare<K: Drop, V: Drop, A: Handle>(
+    spares: &mut Vec<Node<K, V, A>, A>,
+    node: Node<K, V, A>,
+)
+    requires { length spares.old.items < vec_capacity spares.old }
+    ensures items { spares.new.items ≡ spares.old.items ++ node ∷ [] }
+    ensures capacity { vec_capacity spares.old ≤ vec_capacity spares.new }
+{
+    let Ok(_) = spares.push(node) else {
+        unreachable!()
+    };
+}
+
 /// How many leaves `n` pairs need at most.
 pub(crate) fn leaf_count(n: usize) -> usize
     ensures { result ≡ leaves_for n }

@@ -111,7 +111,7 @@ push-requires-2 g t c =
 
 -- a blank node came up from the spares
 blank : (g : given.Over) (t : ℕ) (c : goal.After-take_spare g t) → IsBlankInner c.take_spare.result
-blank g t c = (spare_taken _ _ _ c.take_spare.ensures c.attach.ensures.blank).0
+blank g t c = (spare_taken _ _ _ c.take_spare.ensures.items c.attach.ensures.blank).0
 
 pub returns-clause-pairs : goal.returns-clause-pairs
 returns-clause-pairs g t c =
@@ -128,7 +128,7 @@ returns-clause-levels g t c h s w =
     spine_pushed h _ _ _ c.push-2.ensures (c.attach.ensures.levels (suc h) o.1 closed) (blank_end h _ z)
 
 pub returns-clause-blank : goal.returns-clause-blank
-returns-clause-blank g t c = (spare_taken _ _ _ c.take_spare.ensures c.attach.ensures.blank).1
+returns-clause-blank g t c = (spare_taken _ _ _ c.take_spare.ensures.items c.attach.ensures.blank).1
 
 pub returns-clause-worth : goal.returns-clause-worth
 returns-clause-worth g t c =
@@ -145,13 +145,13 @@ returns-clause-left g t c =
     let z = ap length (blank g t (goal.at.returns-clause-left g t c).After-take_spare).0 in
     let a = count_pushed _ _ _ c.push-2.ensures in
     let l = length_pushed _ _ _ c.push-2.ensures in
-    let i = length_pushed _ _ _ c.take_spare.ensures in
+    let i = length_pushed _ _ _ c.take_spare.ensures.items in
     omega arith
 
 pub returns-clause-used : goal.returns-clause-used
 returns-clause-used g t c =
     let f = full g t (goal.at.returns-clause-used g t c).After-len c.if-len-lt-CAPACITY.false in
-    let l = length_pushed _ _ _ c.take_spare.ensures in
+    let l = length_pushed _ _ _ c.take_spare.ensures.items in
     omega arith
 
 pub returns-clause-short : goal.returns-clause-short
