@@ -21,7 +21,7 @@ module _ {X : Type 0} where
   around : (A L R B : List X) (p : X) → A ++ ((L ++ p ∷ R) ++ B) ≡ (A ++ L) ++ p ∷ (R ++ B)
   around A L R B p = ap (λ zs. A ++ zs) (append_assoc L (p ∷ R) B) ∙ sym (append_assoc A L _)
 
-  stays_around : (A C B L R : List X) (p : X) → C ≡ L ++ p ∷ R → A ++ (C ++ B) ≡ (A ++ L) ++ p ∷ (R ++ B)
+  pub stays_around : (A C B L R : List X) (p : X) → C ≡ L ++ p ∷ R → A ++ (C ++ B) ≡ (A ++ L) ++ p ∷ (R ++ B)
   stays_around A C B L R p e = ap (λ zs. A ++ (zs ++ B)) e ∙ around A L R B p
 
 module _ {K V Z : Type 0} where

@@ -3,6 +3,7 @@ pub mod InsertedLevels
 pub mod Cascades
 pub mod NewPairSteps
 pub mod NewPairs
+pub mod LentLeaves
 pub mod Leaves
 pub mod InsertedTrees
 pub mod Reservations

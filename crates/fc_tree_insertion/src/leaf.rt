@@ -7,8 +7,9 @@ ghost use Rattle.fc_tree_insertion.specs.NewPair.{IsPutAt};
 ghost use Rattle.fc_tree_insertion.specs.Cascade.{leaf_at};
 
 use fc_base::{Count, Handle};
-use fc_tree_node::lend::child_in;
+use fc_tree_node::lend::{child_in, pairs_mut};
 use fc_tree_node::node::{CAPACITY, Node};
+use fc_tree_node::path::MAX_STEPS;
 
 /// Whether the leaf that the path ends in has room for a pair.
 pub fn has_room<K, V, A: Handle>(node: &Node<K, V, A>, path: &[u8]) -> bool
@@ -46,9 +47,12 @@ pub fn insert_in_leaf<K: Drop, V: Drop, A: Handle>(
     ensures moves { count.new.moves ≤ count.old.moves + capacity }
     ensures moved { count.old.moves < count.new.moves }
 {
-    let i = path[0] as usize;
-    if path.len() == 1 {
-        return node.insert_leaf(i, pair, count);
+    // No map has such a path: over so many levels the pairs of a leaf can't be lent.
+    if path.len() > MAX_STEPS {
+        let child = child_in(&mut node.children, path[0] as usize);
+        return insert_in_leaf(child, &path[1..], pair, count);
     }
-    insert_in_leaf(child_in(&mut node.children, i), &path[1..], pair, count);
+    let last = path.len() - 1;
+    let i = path[last] as usize;
+    pairs_mut(node, &path[..last]).insert(i, pair, count);
 }

@@ -14,3 +14,4 @@ pub mod DepthFacts
 pub mod PathSteps
 pub mod Sizes
 pub mod Lent
+pub mod Ways

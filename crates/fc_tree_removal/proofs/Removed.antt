@@ -17,7 +17,7 @@ use Rattle.fc_tree_node.specs.Shrunk.{IsShrunk}
 use Rattle.fc_tree_node.proofs.Lists.{length_take, set_is, length_set, all_take, all_drop}
 use Rattle.fc_tree_node.proofs.Weaves.{weave_parts}
 use Rattle.fc_tree_node.proofs.Pairs.{pairs_is, leaf_children, leaf_pairs, child_below}
-use Rattle.fc_tree_node.proofs.Lent.{IsAbove, above, above_child, IsLent, lent, lent_is, IsReplaced}
+use Rattle.fc_tree_node.proofs.Lent.{IsAbove, above_child, IsLent, lent, lent_is, IsReplaced}
 use Rattle.fc_tree_node.proofs.Cuts.{last_out}
 use Rattle.fc_tree_node.proofs.Gaps.{drop_item, inner_gap, item_there, before_child_pair, after_none}
 use Rattle.fc_tree_node.proofs.PathSteps.{take_all}
@@ -221,12 +221,6 @@ place_step (i ∷ j ∷ p) n h w =
       before = ap (λ q. before_child n i ++ before_pair q (child_at n i)) e;
       after = ap (λ q. after_pair q (child_at n i) ++ after_child n i) e;
     }
-
-pub place_falls : {K V Z : Type 0} (p : List ℕ) (n : Node K V Z) → IsPlace p n → length (slice_range p 1 (length p)) < length p
-place_falls [] n w = absurd w
-place_falls (i ∷ p) n w =
-    let e : length (slice_range (i ∷ p) 1 (length (i ∷ p))) ≡ length p = ap length (take_all p (suc (length p) - 1) (omega arith)) in
-    omega (arith, e)
 
 -- the place is spared below the first step as it is from there on
 pub spared_step : {K V Z : Type 0} (p : List ℕ) (n : Node K V Z) → (length p ≡ 1 → ⊥) → IsPlace p n

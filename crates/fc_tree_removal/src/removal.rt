@@ -1,6 +1,6 @@
 //! Removal at a place, which rebalances the nodes above it on its way up.
 ghost use Rattle.std.specs.Prelude.{◌≡◌, ℕ, suc, ◌+◌, ◌-◌, ◌*◌, ◌<◌, ◌≤◌, [], ◌∷◌, ◌++◌, length, Some, IsTrue};
-ghost use Rattle.fc_base.specs.Sizes.{capacity, min_len, level_moves};
+ghost use Rattle.fc_base.specs.Sizes.{capacity, min_len, most_levels, level_moves};
 ghost use Rattle.fc_tree_node.specs.Node.{own_pairs, child_at, pairs_of, IsLevelled, IsSoundRoot};
 ghost use Rattle.fc_tree_node.specs.Place.{IsPlace, place_pair, before_pair, after_pair};
 ghost use Rattle.fc_tree_node.specs.Siblings.{IsMerged, IsShared};
@@ -12,8 +12,9 @@ ghost use Rattle.fc_tree_removal.specs.Removal.{IsSoundTree, IsTreeLeft, IsSpare
 ghost use Rattle.fc_tree_node.specs.Shrunk.{IsShrunk};
 
 use fc_base::{Count, Handle};
-use fc_tree_node::lend::child_in;
+use fc_tree_node::lend::{child_in, pairs_mut};
 use fc_tree_node::node::{CAPACITY, MIN_LEN, Node, into_only_child};
+use fc_tree_node::path::MAX_STEPS;
 
 /// Takes the pair at the place out of the tree, of which nothing is left where that was the only pair. It compares nothing and takes
 /// no memory.
@@ -36,7 +37,7 @@ pub fn remove<K: Drop, V: Drop, A: Handle>(
 {
     let Some(root) = tree else { unreachable!() };
     let node: &mut Node<K, V, A> = root;
-    if is_spared(node, path) {
+    if path.len() <= MAX_STEPS && is_spared(node, path) {
         return remove_spared(node, path, count);
     }
     let pair = remove_at(node, path, count);
@@ -58,30 +59,29 @@ fn is_spared<K, V, A: Handle>(node: &Node<K, V, A>, path: &[u8]) -> bool
     is_spared(node.child(path[0] as usize), &path[1..])
 }
 
-// Takes the pair at the place out of a leaf that keeps enough without it. Nothing is left to do on the way back, so that a compiler
-// makes a loop of it.
+// Takes the pair at the place out of a leaf that keeps enough without it, whose pairs are lent: no node above it changes, and nothing
+// is left to do on the way back.
 fn remove_spared<K: Drop, V: Drop, A: Handle>(
     node: &mut Node<K, V, A>,
     path: &[u8],
     count: &mut Count,
 ) -> (K, V)
     requires sound { (h : ℕ) × IsSoundRoot h node.old }
+    requires short { length path.now ≤ most_levels }
     requires place { IsPlace path.now node.old }
     requires spared { IsSpared path.now node.old }
     ensures pair { place_pair path.now node.old ≡ Some result }
     ensures pairs { pairs_of node.new ≡ before_pair path.now node.old ++ after_pair path.now node.old }
     ensures levels { (h : ℕ) → IsSoundRoot h node.old → IsShrunk h node.old node.new }
-    ensures kept { (least : ℕ) → least ≤ min_len → least ≤ length (own_pairs node.old) → least ≤ length (own_pairs node.new) }
+    ensures some { 0 < length (own_pairs node.new) }
     ensures moves { count.new.moves ≤ count.old.moves + (capacity + 2) }
     ensures moved { count.old.moves < count.new.moves }
     ensures fewest { (h : ℕ) → IsSoundRoot h node.old → length (own_pairs node.new) < length (own_pairs node.old) → count.old.moves + fewest_moves h ≤ count.new.moves }
     ensures comparisons { count.new.comparisons ≡ count.old.comparisons }
 {
-    let i = path[0] as usize;
-    if path.len() == 1 {
-        return remove_own(node, i, count);
-    }
-    remove_spared(child_in(&mut node.children, i), &path[1..], count)
+    let last = path.len() - 1;
+    let i = path[last] as usize;
+    pairs_mut(node, &path[..last]).remove(i, count)
 }
 
 // Takes a root without pairs out of the tree. It is not inlined, since few removals come to it.

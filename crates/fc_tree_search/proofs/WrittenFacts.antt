@@ -1,22 +1,13 @@
 -- A descent to the pair at a place, and what a tree is once a value is written there.
-use Rattle.std.proofs.Common.{◌≡◌, ℕ, zero, suc, ◌+◌, ◌-◌, ◌<◌, List, [], ◌∷◌, ◌++◌, length, take, drop, get_or, slice_get, slice_set, Some, refl, sym}
+use Rattle.std.proofs.Common.{◌≡◌, ℕ, zero, suc, ◌+◌, ◌<◌, List, [], ◌∷◌, ◌++◌, length, drop, get_or, slice_get, slice_set, Some, refl, sym}
 use Rattle.std.proofs.Common.{ap, subst, ◌∙◌, arith, add-one}
 use Rattle.fc_tree_node.specs.declared.node.Node.{Node, out-Node, roll-Node}
 use Rattle.fc_tree_node.specs.Node.{own_pairs, children_of, child_at}
-use Rattle.fc_tree_node.specs.Place.{IsPlace, place_pair}
-use Rattle.fc_tree_search.specs.Written.{set_value, with_value, with_child, written}
+use Rattle.fc_tree_node.specs.Place.{node_at, IsPlace, place_pair}
+use Rattle.fc_tree_node.specs.Lends.{with_child, with_pairs, with_node}
+use Rattle.fc_tree_search.specs.Written.{set_value, with_value, written}
 use Rattle.fc_tree_node.proofs.Gaps.{drop_item, drop_all, item_there}
-
--- the rest of a path, as a slice of it
-after_is : (path : List ℕ) (i : ℕ) → take (length (i ∷ path) - 1) (drop 1 (i ∷ path)) ≡ path
-after_is path i = ap (λ m. take m path) (let e : length (i ∷ path) - 1 ≡ length path = omega arith in e) ∙ take_all path
-  where
-    take_all : (p : List ℕ) → take (length p) p ≡ p
-    take_all [] = refl
-    take_all (x ∷ p) = ap (λ q. x ∷ q) (take_all p)
-
-abbrev pub later_steps : List ℕ → List ℕ
-later_steps path = take (length path - 1) (drop 1 path)
+use Rattle.fc_tree_node.proofs.Ways.{place_way}
 
 module _ {K V : Type 0} where
   module _ {Z : Type 0} where
@@ -54,45 +45,23 @@ module _ {K V : Type 0} where
     pub own_there : (n : Node K V Z) (i : ℕ) (p : K × V) → i < length (own_pairs n) → p ≡ get_or (own_pairs n) i p → slice_get (own_pairs n) i ≡ Some p
     own_there n i p h e = let x = item_there (own_pairs n) i h in x.2 ∙ ap Some (sym (x.1 p) ∙ sym e)
 
-    -- a way of no step
-    pub here_place : (way : List ℕ) (p : ℕ) (n : Node K V Z) → length way ≡ 0 → IsPlace (way ++ p ∷ []) n → p < length (own_pairs n)
-    here_place [] p n e q = q
-    here_place (i ∷ way) p n e q = absurd (omega arith)
-
-    pub here_pair : (way : List ℕ) (p : ℕ) (n : Node K V Z) → length way ≡ 0 → place_pair (way ++ p ∷ []) n ≡ slice_get (own_pairs n) p
-    here_pair [] p n e = refl
-    here_pair (i ∷ way) p n e = absurd (omega arith)
-
-    pub here_written : (way : List ℕ) (p : ℕ) (n : Node K V Z) (w : V) → length way ≡ 0 → with_value n p w ≡ written n (way ++ p ∷ []) w
-    unfolding written
-    here_written [] p n w e = refl
-    here_written (i ∷ way) p n w e = absurd (omega arith)
+    -- a place in the pairs that are lent
+    pub lent_there : (way : List ℕ) (p : ℕ) (n : Node K V Z) (ps : List (K × V)) → IsPlace (way ++ p ∷ []) n → ps ≡ own_pairs (node_at way n) → p < length ps
+    lent_there way p n ps at is = let there = (place_way way p n at).1 in let same = ap length is in omega (arith, there, same)
 
     -- one step ahead of others
-    step_place : (i : ℕ) (way : List ℕ) (p : ℕ) (n : Node K V Z) → IsPlace (i ∷ way ++ p ∷ []) n
-        → (i < length (children_of n)) × IsPlace (way ++ p ∷ []) (child_at n i)
-    step_place i [] p n q = q
-    step_place i (j ∷ way) p n q = q
-
-    step_pair : (i : ℕ) (way : List ℕ) (p : ℕ) (n : Node K V Z) → place_pair (i ∷ way ++ p ∷ []) n ≡ place_pair (way ++ p ∷ []) (child_at n i)
-    step_pair i [] p n = refl
-    step_pair i (j ∷ way) p n = refl
-
     step_written : (i : ℕ) (way : List ℕ) (p : ℕ) (n : Node K V Z) (w : V)
         → with_child n i (written (child_at n i) (way ++ p ∷ []) w) ≡ written n (i ∷ way ++ p ∷ []) w
     unfolding written
     step_written i [] p n w = refl
     step_written i (j ∷ way) p n w = refl
 
-    -- a way of more steps
-    pub below_there : (way : List ℕ) (p : ℕ) (n : Node K V Z) → (length way ≡ 0 → ⊥) → IsPlace (way ++ p ∷ []) n → get_or way 0 0 < length (children_of n)
-    below_there [] p n e q = absurd (e refl)
-    below_there (i ∷ way) p n e q = (step_place i way p n q).0
-
-    pub below_pair : (way : List ℕ) (p : ℕ) (n c : Node K V Z) → (length way ≡ 0 → ⊥) → c ≡ child_at n (get_or way 0 0)
-        → place_pair (way ++ p ∷ []) n ≡ place_pair (later_steps way ++ p ∷ []) c
-    below_pair [] p n c e s = absurd (e refl)
-    below_pair (i ∷ way) p n c e s = step_pair i way p n ∙ ap (place_pair (way ++ p ∷ [])) (sym s) ∙ ap (λ r. place_pair (r ++ p ∷ []) c) (sym (after_is way i))
+    -- what the end of a way leaves
+    pub way_written : (way : List ℕ) (p : ℕ) (n : Node K V Z) (w : V)
+        → with_node n way (with_value (node_at way n) p w) ≡ written n (way ++ p ∷ []) w
+    unfolding written
+    way_written [] p n w = refl
+    way_written (i ∷ way) p n w = ap (with_child n i) (way_written way p (child_at n i) w) ∙ step_written i way p n w
 
   set_is_value : (s : List (K × V)) (i : ℕ) (e : K × V) (w : V) → i < length s → e ≡ get_or s i e → slice_set s i (e.0, w) ≡ set_value s i w
   set_is_value [] i e w h r = refl
@@ -105,9 +74,10 @@ module _ {K V : Type 0} where
         → roll-Node K V Z (record { pairs = slice_set (own_pairs n) i (e.0, w); children = (out-Node K V Z n).children }) ≡ with_value n i w
     own_written n i e w h r = ap (λ ps. roll-Node K V Z (record { pairs = ps; children = (out-Node K V Z n).children })) (set_is_value (own_pairs n) i e w h r)
 
-    -- what a lent child leaves
-    pub below_written : (way : List ℕ) (p : ℕ) (n c : Node K V Z) (w : V) → (length way ≡ 0 → ⊥) → c ≡ child_at n (get_or way 0 0)
-        → with_child n (get_or way 0 0) (written c (later_steps way ++ p ∷ []) w) ≡ written n (way ++ p ∷ []) w
-    below_written [] p n c w more is = absurd (more refl)
-    below_written (i ∷ way) p n c w more is = ap (λ r. with_child n i (written c (r ++ p ∷ []) w)) (after_is way i)
-        ∙ ap (λ m. with_child n i (written m (way ++ p ∷ []) w)) is ∙ step_written i way p n w
+    -- what a pair leaves that was lent out of the pairs at the end of a way
+    pub lent_written : (way : List ℕ) (p : ℕ) (n : Node K V Z) (ps : List (K × V)) (e : K × V) (w : V) → ps ≡ own_pairs (node_at way n)
+        → p < length (own_pairs (node_at way n)) → e ≡ get_or ps p e
+        → with_node n way (with_pairs (node_at way n) (slice_set ps p (e.0, w))) ≡ written n (way ++ p ∷ []) w
+    lent_written way p n ps e w is there read =
+        ap (λ qs. with_node n way (with_pairs (node_at way n) (slice_set qs p (e.0, w)))) is
+        ∙ ap (with_node n way) (own_written (node_at way n) p e w there (read ∙ ap (λ qs. get_or qs p e) is)) ∙ way_written way p n w

@@ -29,12 +29,12 @@ pub remove_spared-requires : goal.remove_spared-requires
 remove_spared-requires g c =
     let sound : IsSoundRoot c.requires.sound.0 c.in-Some.root = rw c.in-Some.is at c.requires.sound.1 in
     let place : IsPlace c.args.path.now c.in-Some.root = rw c.in-Some.is at c.requires.place in
-    record { sound = (c.requires.sound.0, sound); place = place; spared = c.is_spared.ensures (c.if-is_spared.true) }
+    record { sound = (c.requires.sound.0, sound); short = c.if-path-le-MAX_STEPS.true; place = place; spared = c.is_spared.ensures (c.if-is_spared.true) }
 
 pub returns-then-is_spared-clause-levels : goal.returns-then-is_spared-clause-levels
 returns-then-is_spared-clause-levels g c h s =
     let sound : IsSoundRoot h c.in-Some.root = rw c.in-Some.is at s in
-    inl (c.remove_spared.ensures.kept 1 (omega arith) sound.0, (c.remove_spared.ensures.levels h sound).0)
+    inl (omega (arith, c.remove_spared.ensures.some), (c.remove_spared.ensures.levels h sound).0)
 
 pub returns-then-is_spared-clause-fewest : goal.returns-then-is_spared-clause-fewest
 returns-then-is_spared-clause-fewest g c =
