@@ -4,9 +4,7 @@ ghost use Rattle.fc_base.specs.Sizes.{most_children};
 ghost use Rattle.fc_tree_node.specs.Node.{IsBlankLeaf};
 ghost use Rattle.fc_tree_node.specs.Tree.{entries, IsSoundMap};
 
-use crate::spares::{
-    inner_count, leaf_count, put_spare, take_spare, try_inner_nodes, try_leaves,
-};
+use crate::spares::{inner_count, leaf_count, put_spare, take_spare, try_inner_nodes, try_leaves};
 use crate::spine::{Spine, attach, close, put_pair};
 use fc_base::{Handle, TryReserveError};
 use fc_tree_drain::stack::Stack;

@@ -25,6 +25,8 @@ pub(crate) fn try_leaves<K: Drop, V: Drop, A: Handle>(
     for _i in 0..count {
         leaves.push(Node::try_leaf(alloc)?)?;
     }
+    // They are used from the last on, and an allocator often puts what it makes behind one another.
+    leaves.reverse();
     Ok(leaves)
 }
 

@@ -1,12 +1,10 @@
-use Rattle.std.proofs.Common.{rules, min, ◌≡◌, ◌+◌, ◌*◌, ◌≤◌, [], ◌∷◌, length, ap, ◌∙◌, arith, length-append, subst, sym}
+use Rattle.std.proofs.Common.{min, ◌+◌, ◌*◌, ◌≤◌, length, ap, arith, subst, sym}
 use Rattle.std.specs.Prelude.{vec_capacity}
 use Rattle.std.specs.List.{AllByRecursion}
 use Rattle.fc_base.specs.Sizes.{most_children}
 use Rattle.fc_tree_build.specs.Built.{room_behind}
-use denote.Param.{param}
 use Rattle.fc_tree_node.specs.Node.{IsBlankLeaf}
 use Rattle.fc_tree_node.proofs.Lists.{all_both}
-use Rattle.fc_tree_drain.proofs.Sizes.{nodes_fit}
 use Rattle.fc_tree_build.proofs.SpineFacts.{length_pushed}
 use Rattle.fc_tree_build.proofs.Builders.{kept_room, more_room, two_more, full_room}
 use Rattle.fc_tree_build.proofs.builder.Builder.give_leaf.Goals as goal

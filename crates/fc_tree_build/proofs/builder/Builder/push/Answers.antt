@@ -1,4 +1,4 @@
-use Rattle.std.proofs.Common.{◌≡◌, ◌+◌, ◌-◌, ◌<◌, ◌≤◌, ◌⊎◌, length, Some, refl, sym, ap, ◌∙◌, subst, min, arith}
+use Rattle.std.proofs.Common.{◌≡◌, ◌-◌, ◌<◌, ◌≤◌, ◌⊎◌, length, Some, refl, sym, ap, ◌∙◌, subst, min, arith}
 use Rattle.std.specs.Prelude.{vec_capacity}
 use denote.Param.{param}
 use Rattle.fc_base.specs.Sizes.{capacity, most_height}
@@ -21,10 +21,11 @@ last : (g : given.Over) (c : goal.In-Some g) → IsLast (Some c.in-Some.last) c.
 last g c =
     let s = c.self.inside in
     let i = c.self.invariant in
-    let some = some_room s.limit _ _ (ap (λ b. b.room) c.self.view_is) c.requires in
-    (last_is s.last c.in-Some.last _ _ c.in-Some.is i.0,
-     (some.0, subst (λ o. 0 < room_behind o (length s.leaves.items)) c.in-Some.is some.1),
-     subst (λ o. IsEnough (length s.inner.items) (leaves_behind o s.limit) s.spine) c.in-Some.is i.5)
+    let some = some_room s.limit _ _ (ap (λ b. b.room) c.self.view_is) c.requires in (
+      last_is s.last c.in-Some.last _ _ c.in-Some.is i.0,
+      (some.0, subst (λ o. 0 < room_behind o (length s.leaves.items)) c.in-Some.is some.1),
+      subst (λ o. IsEnough (length s.inner.items) (leaves_behind o s.limit) s.spine) c.in-Some.is i.5,
+    )
 
 pub attach-requires : goal.attach-requires
 attach-requires g c =

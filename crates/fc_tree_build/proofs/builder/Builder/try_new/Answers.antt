@@ -1,4 +1,4 @@
-use Rattle.std.proofs.Common.{rules, inr, sym, ap, ◌∙◌, arith}
+use Rattle.std.proofs.Common.{rules, inr, ◌∙◌, arith}
 use Rattle.std.proofs.lemmas.Result.{IfOk-weaker}
 use Rattle.fc_tree_build.proofs.Builders.{leaves_enough, leaves_none}
 use Rattle.fc_tree_build.proofs.builder.Builder.try_new.Goals as goal

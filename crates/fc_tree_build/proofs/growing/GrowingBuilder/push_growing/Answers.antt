@@ -1,4 +1,4 @@
-use Rattle.std.proofs.Common.{◌<◌, ◌≤◌, subst, inr}
+use Rattle.std.proofs.Common.{◌<◌, subst, inr}
 use Rattle.fc_base.specs.Sizes.{capacity}
 use Rattle.fc_tree_build.proofs.GrownFacts.{grown_leaf, all_pairs, put_grown, put_pairs, grafted_grown, grafted_pairs, full_pairs, as_full, if_err}
 use Rattle.fc_tree_build.proofs.growing.GrowingBuilder.push_growing.Goals as goal

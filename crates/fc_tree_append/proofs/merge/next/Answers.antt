@@ -1,0 +1,15 @@
+use Rattle.std.proofs.Common.{length, ap, arith}
+use denote.Param.{param}
+use Rattle.fc_tree_drain.proofs.Sizes.{leaf_front_fits}
+use Rattle.fc_tree_build.proofs.StackSizes.{builder_fits}
+use Rattle.fc_tree_append.proofs.merge.next.Goals as goal
+
+pub returns-then-in_leaf-gt0-clause-room : goal.returns-then-in_leaf-gt0-clause-room
+returns-then-in_leaf-gt0-clause-room g c other few all room = let one = c.next_in_leaf.ensures.in_leaf in omega arith
+
+pub returns-clause-room : goal.returns-clause-room
+returns-clause-room g c other few all room =
+    let one = ap length c.next_leaf.ensures.pairs in
+    let leaf = c.next_leaf.ensures.leaf in
+    let more = c.give_leaf.ensures.room in
+    omega arith
