@@ -8,7 +8,7 @@ use Rattle.fc_tree_node.specs.declared.node.Node.{Node}
 use Rattle.fc_tree_node.specs.Node.{own_pairs, child_at, pairs_of, IsLeaf, IsLevelled}
 use Rattle.fc_tree_node.specs.Path.{IsPath, before_gap, after_gap}
 use Rattle.fc_tree_node.specs.Place.{before_child, before_own, after_own, IsDescent, node_at}
-use Rattle.fc_tree_node.specs.Lends.{with_pairs, with_node}
+use Rattle.fc_tree_node.specs.Way.{with_pairs, with_node}
 use Rattle.fc_tree_node.proofs.Lists.{length_take}
 use Rattle.fc_tree_node.proofs.Made.{own_made, field_made}
 use Rattle.fc_tree_node.proofs.Gaps.{before_more, after_more, place_more, pair_more, before_own_more, after_own_more}

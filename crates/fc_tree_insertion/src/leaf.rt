@@ -7,7 +7,8 @@ ghost use Rattle.fc_tree_insertion.specs.NewPair.{IsPutAt};
 ghost use Rattle.fc_tree_insertion.specs.Cascade.{leaf_at};
 
 use fc_base::{Count, Handle};
-use fc_tree_node::lend::{child_in, pairs_mut};
+use fc_tree_node::descent::pairs_mut;
+use fc_tree_node::lend::child_in;
 use fc_tree_node::node::{CAPACITY, Node};
 use fc_tree_node::path::MAX_STEPS;
 

@@ -1,13 +1,14 @@
 -- A way to a node further down, and a tree with another node at its end.
 use Rattle.std.proofs.Common.{◌≡◌, ℕ, zero, suc, ◌+◌, ◌-◌, ◌<◌, ◌≤◌, List, [], ◌∷◌, ◌++◌, length, get_or, take, refl, sym, ap, subst, ◌∙◌, arith}
 use Rattle.std.proofs.Common.{append_assoc, append-nil}
-use Rattle.std.specs.Prelude.{slice_range}
+use Rattle.std.specs.Prelude.{slice_range, slice_set}
+use Rattle.std.specs.Option.{option_map}
 use Rattle.fc_base.specs.Sizes.{min_len}
-use Rattle.fc_tree_node.specs.declared.node.Node.{Node}
+use Rattle.fc_tree_node.specs.declared.node.Node.{Node, out-Node, roll-Node}
 use Rattle.fc_tree_node.specs.Node.{own_pairs, children_of, child_at, pairs_of, IsLevelled}
 use Rattle.fc_tree_node.specs.Path.{IsPath, before_gap, after_gap}
 use Rattle.fc_tree_node.specs.Place.{before_child, after_child, IsDescent, node_at, IsPlace}
-use Rattle.fc_tree_node.specs.Lends.{with_child, with_pairs, with_node}
+use Rattle.fc_tree_node.specs.Way.{with_pairs, with_node}
 use Rattle.fc_tree_node.proofs.Pairs.{child_below}
 use Rattle.fc_tree_node.proofs.PathSteps.{take_all}
 use Rattle.fc_tree_node.proofs.Gaps.{step_levels}
@@ -31,6 +32,9 @@ module _ {K V Z : Type 0} where
   below_pairs [] n c more is = absurd (more refl)
   below_pairs (i ∷ way) n c more is =
       ap (λ r. own_pairs (node_at r c)) (take_all way (suc (length way) - 1) (omega arith)) ∙ ap (λ m. own_pairs (node_at way m)) is
+
+  abbrev with_child : Node K V Z → ℕ → Node K V Z → Node K V Z
+  with_child n i c = roll-Node K V Z (record { pairs = own_pairs n; children = option_map (λ cs. slice_set cs i c) (out-Node K V Z n).children })
 
   -- what a child leaves where pairs were lent below it
   pub below_with : (way : List ℕ) (n c : Node K V Z) (ps : List (K × V)) → (length way ≡ 0 → ⊥) → c ≡ child_at n (get_or way 0 0)

@@ -14,3 +14,4 @@ pub mod Depth
 pub mod Shrunk
 pub mod LeafGap
 pub mod Lends
+pub mod Way

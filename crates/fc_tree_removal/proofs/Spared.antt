@@ -9,7 +9,7 @@ use Rattle.fc_tree_node.specs.declared.node.Node.{Node}
 use Rattle.fc_tree_node.specs.Node.{own_pairs, child_at, pairs_of, IsLeaf, IsLevelled}
 use Rattle.fc_tree_node.specs.Path.{before_gap, after_gap}
 use Rattle.fc_tree_node.specs.Place.{before_own, after_own, IsDescent, node_at, IsPlace, place_pair, before_pair, after_pair}
-use Rattle.fc_tree_node.specs.Lends.{with_pairs, with_node}
+use Rattle.fc_tree_node.specs.Way.{with_pairs, with_node}
 use Rattle.fc_tree_node.specs.Shrunk.{IsOneFewer, IsShrunk}
 use Rattle.fc_tree_node.proofs.Made.{own_made, field_made}
 use Rattle.fc_tree_node.proofs.Pairs.{leaf_pairs, leaf_children}

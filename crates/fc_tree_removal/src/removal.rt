@@ -12,7 +12,8 @@ ghost use Rattle.fc_tree_removal.specs.Removal.{IsSoundTree, IsTreeLeft, IsSpare
 ghost use Rattle.fc_tree_node.specs.Shrunk.{IsShrunk};
 
 use fc_base::{Count, Handle};
-use fc_tree_node::lend::{child_in, pairs_mut};
+use fc_tree_node::descent::pairs_mut;
+use fc_tree_node::lend::child_in;
 use fc_tree_node::node::{CAPACITY, MIN_LEN, Node, into_only_child};
 use fc_tree_node::path::MAX_STEPS;
 

@@ -4,8 +4,8 @@ use Rattle.std.proofs.Common.{ap, subst, ◌∙◌, arith, add-one}
 use Rattle.fc_tree_node.specs.declared.node.Node.{Node, out-Node, roll-Node}
 use Rattle.fc_tree_node.specs.Node.{own_pairs, children_of, child_at}
 use Rattle.fc_tree_node.specs.Place.{node_at, IsPlace, place_pair}
-use Rattle.fc_tree_node.specs.Lends.{with_child, with_pairs, with_node}
-use Rattle.fc_tree_search.specs.Written.{set_value, with_value, written}
+use Rattle.fc_tree_node.specs.Way.{with_pairs, with_node}
+use Rattle.fc_tree_search.specs.Written.{set_value, with_value, with_child, written}
 use Rattle.fc_tree_node.proofs.Gaps.{drop_item, drop_all, item_there}
 use Rattle.fc_tree_node.proofs.Ways.{place_way}
 

@@ -7,7 +7,7 @@ ghost use Rattle.fc_tree_node.specs.Place.{IsPlace, place_pair};
 ghost use Rattle.fc_tree_search.specs.Written.{lends_at};
 
 use fc_base::Handle;
-use fc_tree_node::lend::pairs_mut;
+use fc_tree_node::descent::pairs_mut;
 use fc_tree_node::node::Node;
 use fc_tree_node::path::Path;
 use std::alloc::Allocator;

@@ -2,7 +2,7 @@ use Rattle.std.proofs.Common.{get_or, refl, ◌∙◌}
 use Rattle.std.proofs.lemmas.List.{get_or_read}
 use Rattle.fc_tree_node.specs.Node.{children_of}
 use Rattle.fc_tree_node.proofs.Ways.{below_there, below_with, below_pairs}
-use Rattle.fc_tree_node.proofs.lend.BelowDescend.pairs_at.Goals as goal
+use Rattle.fc_tree_node.proofs.descent.BelowDescend.pairs_at.Goals as goal
 
 pub returns-else-way-eq0 : goal.returns-else-way-eq0
 returns-else-way-eq0 g c =
