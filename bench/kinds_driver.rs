@@ -15,7 +15,7 @@ use std::collections::btree_map::Entry;
 use std::hint::black_box;
 
 // Pairs, and rounds of runs.
-const SIZES: [(usize, usize); 2] = [(1_000, 100), (100_000, 10)];
+const SIZES: [(usize, usize); 2] = [(1_000, 200), (100_000, 20)];
 const FORM: Form = (44, 7, 1);
 const BEGINNING: &str = "customers/north/orders/by-date/";
 const NUMBERS: u64 = 0;

@@ -14,11 +14,13 @@ use std::collections::BTreeMap;
 use std::hint::black_box;
 
 // Pairs, and rounds of runs.
-const SIZES: [(usize, usize); 3] = [(1_000, 200), (100_000, 20), (1_000_000, 5)];
+const SIZES: [(usize, usize); 3] = [(1_000, 400), (100_000, 40), (1_000_000, 11)];
 const FORM: Form = (44, 7, 1);
 // So many pairs all walks in a row give, but no more walks than 400.
 const WALKED: usize = 4_000_000;
 const MOST_WALKS: usize = 400;
+// Of fewer pairs it tells what blocks the allocator keeps for the next requests and counts as held.
+const LEAST_WEIGHED: usize = 100_000;
 
 // Keys in the order that they are loaded in, and how many walks follow in a row.
 struct Load {
@@ -147,7 +149,7 @@ fn print_rows_of(loads: &[Load], rounds: usize) {
             compared[phase].print_median(name, FORM, *pairs as f64);
         }
     }
-    for load in loads {
+    for load in loads.iter().filter(|load| load.keys.len() >= LEAST_WEIGHED) {
         let bytes = held(load);
         print_row(&format!("bytes, {}", load.order), FORM, bytes, bytes[0] / bytes[1]);
     }
