@@ -4,6 +4,7 @@
 pub mod counted;
 pub mod folded;
 pub mod heap;
+pub mod items;
 pub mod keys;
 pub mod one_key;
 pub mod phases;

@@ -7,6 +7,7 @@
 mod harness;
 mod jobs;
 
+use harness::items::{BEGINNING, Key, Value};
 use harness::phases::depths;
 use harness::{Form, Keys, Runs, chosen, compare, mark, mixed, print_head, print_row, start, tell};
 use jobs::{bench_kinds_entries, bench_kinds_run};
@@ -17,7 +18,6 @@ use std::hint::black_box;
 // Pairs, and rounds of runs.
 const SIZES: [(usize, usize); 2] = [(1_000, 200), (100_000, 20)];
 const FORM: Form = (44, 7, 1);
-const BEGINNING: &str = "customers/north/orders/by-date/";
 const NUMBERS: u64 = 0;
 const VALUES_OF_256_BYTES: u64 = 6;
 const KINDS: [&str; 7] = [
@@ -30,65 +30,6 @@ const KINDS: [&str; 7] = [
     "values of 256 bytes",
 ];
 const CALLS: [&str; 4] = ["insert", "insert again", "get", "remove"];
-
-// A type of keys; a text begins with `beginning`.
-trait Key: Ord {
-    fn of(beginning: &str, number: u64) -> Self;
-    fn number(&self) -> u64;
-}
-
-impl Key for u64 {
-    fn of(_: &str, number: u64) -> u64 {
-        number
-    }
-
-    fn number(&self) -> u64 {
-        *self
-    }
-}
-
-impl Key for (u64, u64) {
-    fn of(_: &str, number: u64) -> (u64, u64) {
-        (number % 16, number)
-    }
-
-    fn number(&self) -> u64 {
-        self.1
-    }
-}
-
-impl Key for String {
-    fn of(beginning: &str, number: u64) -> String {
-        let mut text = String::with_capacity(64);
-        text.push_str(beginning);
-        let mut left = number;
-        for _ in 0..13 {
-            text.push(char::from(b'a' + (left % 26) as u8));
-            left /= 26;
-        }
-        text
-    }
-
-    fn number(&self) -> u64 {
-        self.as_bytes().last().map_or(0, |letter| u64::from(*letter))
-    }
-}
-
-// A type of values: numbers, so many that it has its size.
-trait Value {
-    fn of(number: u64) -> Self;
-    fn number(&self) -> u64;
-}
-
-impl<const N: usize> Value for [u64; N] {
-    fn of(number: u64) -> [u64; N] {
-        [number; N]
-    }
-
-    fn number(&self) -> u64 {
-        self.last().copied().unwrap_or(0)
-    }
-}
 
 #[inline(never)]
 fn insert_all<K: Key, V: Value>(map: &mut BTreeMap<K, V>, keys: Vec<K>, start: u64) -> u64 {
