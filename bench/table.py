@@ -10,14 +10,14 @@
   bench/table.py --write         writes them into the page
 
 A table stands on the page between the lines '<!-- table: NAME -->' and '<!-- end -->'. NAME is 'instructions TITLE', with a title that bench/instructions.py
-prints: a row is then what it was before (figures/before, if it is there), what it is now, std's, and the most that was aimed at (figures/aims, lines 'MOST  TITLE: ROW');
-of maps in a budget it is theirs, that of the same jobs at `Global`, and what another title has as std's. Or NAME is a script, and maybe a unit: a column is then each of its
-titles that end in ': UNIT', and a cell ours, std's and the multiple that the script gave; before these stands a column of instructions where BESIDE names their
+prints: a row is then what it was before (figures/before, if it is there), what it is now, std's, and the most that was aimed at (figures/aims, lines
+'MOST  TITLE: ROW'); of maps in a budget it is theirs, that of the same jobs at `Global`, and what another title has as std's. Or NAME is a script, and maybe a
+unit: a column is then each of its titles that end in ': UNIT', and a cell ours, std's and the multiple that the script gave; before these stands a column of instructions where BESIDE names their
 title. Of a script with no file in figures/ the page stays as it is.
 
 The table 'above' has each row of the others in which ours are more than std's, by more than a twentieth where they are times, and its reason (figures/reasons,
-lines 'ROW  REASON', 'of sets' behind a row of those; that of 'KIND' is the reason of each row 'KIND: CALL' with none of its own). Without a reason of each the
-page is not written.
+lines 'ROW  REASON', 'of sets' behind a row of those; that of 'KIND' is the reason of each row 'KIND: CALL' or 'KIND, CALL' with none of its own). Without a reason of
+each the page is not written.
 """
 import pathlib
 import re
@@ -99,7 +99,8 @@ def columns(script, unit):
     if script not in BESIDE or not path.is_file():
         return times
     counted = {row[0]: row[1:] for row in printed(path)[1].get(BESIDE[script], []) if any(row[0] in rows for rows in times.values())}
-    return {f"instructions at {commit(path)}, 1000 pairs": counted, **times}
+    at = "" if commit(path) == commit(FIGURES / script) else f" at {commit(path)}"
+    return {f"instructions{at}, 1000 pairs": counted, **times}
 
 
 def of_times(script, unit):
@@ -128,7 +129,7 @@ def multiples(name):
     else:
         by_head = columns(script, title and f": {title}")
     for head, rows in by_head.items():
-        where = "instructions" if head.startswith("instructions at") else re.split(r"[,:]", head)[0]
+        where = "instructions" if head.startswith("instructions") else re.split(r"[,:]", head)[0]
         is_counted = where in ("misses", "instructions")
         for row, (ours, stds, median) in rows.items():
             multiple = float(ours) / float(stds) if is_counted else float(median)
@@ -137,8 +138,8 @@ def multiples(name):
 
 
 def reason(call, why):
-    """That of the call, or of the kind of map that it is made on."""
-    return why.get(call) or why.get(call.partition(":")[0])
+    """That of the call, or of what it is made on or with, which stands before it."""
+    return why.get(call) or why.get(re.split("[:,] ", call)[0])
 
 
 def above(names):

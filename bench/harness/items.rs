@@ -46,7 +46,7 @@ impl Key for String {
     }
 }
 
-/// A type of values: so many numbers as it has eighths of its bytes.
+/// A type of values: numbers in a row, of which there may be none.
 pub trait Value {
     fn of(number: u64) -> Self;
     fn number(&self) -> u64;
