@@ -87,7 +87,7 @@ def main():
     for tool in ("valgrind", "git"):
         if shutil.which(tool) is None:
             sys.exit(f"bench/instructions.py: {tool} is not on the path")
-    commit = subprocess.run(["git", "-C", BENCH, "describe", "--always", "--dirty"], capture_output=True, text=True).stdout.strip()
+    commit = subprocess.run([BENCH / "commit"], capture_output=True, text=True, check=False).stdout.strip()
     print(f"instructions at {commit}{'' if proved else ', unproved'}: ours / std's", flush=True)
     with tempfile.TemporaryDirectory() as folder:
         work = pathlib.Path(folder)

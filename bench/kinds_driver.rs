@@ -138,15 +138,16 @@ fn enter_std(keys: &Keys) -> u64 {
 const RUNS: [fn(&Job) -> u64; 2] = [run_ours, run_std];
 const ENTRY_RUNS: Runs<Keys> = [enter_ours, enter_std];
 
-fn print_kinds(keys: &Keys, rounds: usize) {
-    for kind in 0..KINDS.len() as u64 {
-        let job = Job { kind, keys };
-        for (phase, (name, calls)) in compare(&job, rounds, RUNS).iter().zip(job.rows()) {
-            if !name.is_empty() {
-                phase.print_median(&name, FORM, calls as f64);
-            }
+fn print_kind(job: &Job, rounds: usize) {
+    for (phase, (name, calls)) in compare(job, rounds, RUNS).iter().zip(job.rows()) {
+        if !name.is_empty() {
+            phase.print_median(&name, FORM, calls as f64);
         }
     }
+}
+
+fn print_kinds(keys: &Keys, rounds: usize) {
+    (0..KINDS.len() as u64).for_each(|kind| print_kind(&Job { kind, keys }, rounds));
 }
 
 fn print_entries(keys: &Keys, rounds: usize) {
@@ -165,35 +166,36 @@ fn print_parts(parts: &[fn(&Keys, usize)]) {
 }
 
 // How deep the stack goes in the phases that insert and remove.
+fn print_depths_of(job: &Job, value_bytes: usize) {
+    let [ours, stds] = RUNS.map(|run| depths(|| _ = black_box(run(job))));
+    for (call, phase) in [("insert", 0), ("remove", 3)] {
+        let both = [ours[phase] as f64, stds[phase] as f64];
+        let name = format!("stack of {call}, values of {value_bytes} bytes");
+        print_row(&name, (FORM.0, FORM.1, 0), both, both[0] / both[1]);
+    }
+}
+
 fn print_depths() {
     print_head("bytes of stack: ours / std's BTreeMap (ours as a multiple of std's)");
     for (pairs, _) in chosen(SIZES) {
         println!("{pairs} pairs");
-        let keys = Keys::new(pairs);
-        for (kind, value) in [(NUMBERS, "8"), (VALUES_OF_256_BYTES, "256")] {
-            let job = Job { kind, keys: &keys };
-            let [ours, stds] = RUNS.map(|run| depths(|| _ = black_box(run(&job))));
-            for (call, phase) in [("insert", 0), ("remove", 3)] {
-                let both = [ours[phase] as f64, stds[phase] as f64];
-                print_row(&format!("stack of {call}, values of {value} bytes"), (FORM.0, FORM.1, 0), both, both[0] / both[1]);
-            }
-        }
+        let keys = &Keys::new(pairs);
+        print_depths_of(&Job { kind: NUMBERS, keys }, 8);
+        print_depths_of(&Job { kind: VALUES_OF_256_BYTES, keys }, 256);
     }
 }
 
-// Each job once on each side.
-fn count() {
-    let keys = Keys::new(1_000);
-    for who in 0..2 {
-        for kind in 0..KINDS.len() as u64 {
-            let job = Job { kind, keys: &keys };
-            let names = job.rows();
-            let rows: Vec<(&str, usize)> = names.iter().map(|(name, calls)| (name.as_str(), *calls)).collect();
-            tell(who, &rows, || _ = black_box(RUNS[who](&job)));
-        }
-        let rows = ENTRIES.map(|name| (name, keys.inserted.len()));
-        tell(who, &rows, || _ = black_box(ENTRY_RUNS[who](&keys)));
+// Each job once on one side.
+fn count_on(who: usize) {
+    let keys = &Keys::new(1_000);
+    for kind in 0..KINDS.len() as u64 {
+        let job = Job { kind, keys };
+        let names = job.rows();
+        let rows: Vec<(&str, usize)> = names.iter().map(|(name, calls)| (name.as_str(), *calls)).collect();
+        tell(who, &rows, || _ = black_box(RUNS[who](&job)));
     }
+    let rows = ENTRIES.map(|name| (name, keys.inserted.len()));
+    tell(who, &rows, || _ = black_box(ENTRY_RUNS[who](keys)));
 }
 
 fn main() {
@@ -201,7 +203,7 @@ fn main() {
         ("kinds", || print_parts(&[print_kinds])),
         ("entries", || print_parts(&[print_entries])),
         ("depths", print_depths),
-        ("count", count),
+        ("count", || (0..2).for_each(count_on)),
     ];
     start(&parts, || print_parts(&[print_kinds, print_entries]));
 }

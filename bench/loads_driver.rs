@@ -140,15 +140,15 @@ fn held(load: &Load) -> [f64; 2] {
     LOADS.map(|run| weights(|| _ = black_box(run(&once)))[0] as f64 / load.keys.len() as f64)
 }
 
-// A row of each load for each phase, and then for the bytes.
-fn print_rows_of(loads: &[Load], rounds: usize) {
-    let compared: Vec<Vec<Compared>> = loads.iter().map(|load| compare(load, rounds, LOADS)).collect();
-    for phase in 0..3 {
-        for (load, compared) in loads.iter().zip(&compared) {
-            let (name, pairs) = &load.rows()[phase];
-            compared[phase].print_median(name, FORM, *pairs as f64);
-        }
+// A row of each load for one phase.
+fn print_phase(phase: usize, loads: &[Load], compared: &[Vec<Compared>]) {
+    for (load, compared) in loads.iter().zip(compared) {
+        let (name, pairs) = &load.rows()[phase];
+        compared[phase].print_median(name, FORM, *pairs as f64);
     }
+}
+
+fn print_bytes(loads: &[Load]) {
     for load in loads.iter().filter(|load| load.keys.len() >= LEAST_WEIGHED) {
         let bytes = held(load);
         print_row(&format!("bytes, {}", load.order), FORM, bytes, bytes[0] / bytes[1]);
@@ -159,7 +159,10 @@ fn print_loads() {
     print_head("nanoseconds a pair, best of so many runs: ours / std's BTreeMap (the median of ours as a multiple of std's)");
     for (pairs, rounds) in chosen(SIZES) {
         println!("{pairs} pairs, {rounds} runs");
-        print_rows_of(&loads(pairs), rounds);
+        let loads = loads(pairs);
+        let compared: Vec<Vec<Compared>> = loads.iter().map(|load| compare(load, rounds, LOADS)).collect();
+        (0..3).for_each(|phase| print_phase(phase, &loads, &compared));
+        print_bytes(&loads);
     }
 }
 
@@ -173,22 +176,20 @@ fn print_appends() {
     }
 }
 
-// Each job on each side, at a thousand pairs.
-fn count() {
+// Each job on one side, at a thousand pairs.
+fn count_on(who: usize) {
     let pairs = 1_000;
-    for who in 0..2 {
-        for load in loads(pairs) {
-            let once = Load { walks: 0, ..load };
-            tell_second_of(who, &once.rows()[0].0, pairs, 3, || LOADS[who](&once));
-        }
-        for job in appends(pairs) {
-            tell_second(who, job.name, pairs, || APPENDS[who](&job));
-        }
+    for load in loads(pairs) {
+        let once = Load { walks: 0, ..load };
+        tell_second_of(who, &once.rows()[0].0, pairs, 3, || LOADS[who](&once));
+    }
+    for job in appends(pairs) {
+        tell_second(who, job.name, pairs, || APPENDS[who](&job));
     }
 }
 
 fn main() {
-    let parts: [(&str, fn()); 3] = [("loads", print_loads), ("append", print_appends), ("count", count)];
+    let parts: [(&str, fn()); 3] = [("loads", print_loads), ("append", print_appends), ("count", || (0..2).for_each(count_on))];
     start(&parts, || {
         print_loads();
         print_appends();

@@ -12,12 +12,12 @@
 A table stands on the page between the lines '<!-- table: NAME -->' and '<!-- end -->'. NAME is 'instructions TITLE', with a title that bench/instructions.py
 prints: a row is then what it was before (figures/before, if it is there), what it is now, std's, and the most that was aimed at (figures/aims, lines
 'MOST  TITLE: ROW'); of maps in a budget it is theirs, that of the same jobs at `Global`, and what another title has as std's. Or NAME is a script, and maybe a
-unit: a column is then each of its titles that end in ': UNIT', and a cell ours, std's and the multiple that the script gave; before these stands a column of instructions where BESIDE names their
-title. Of a script with no file in figures/ the page stays as it is.
+unit: a column is then each of its titles that end in ': UNIT', and a cell ours, std's and the multiple that the script gave; before these stands a column of
+instructions where BESIDE names their title. Of a script with no file in figures/ the page stays as it is.
 
 The table 'above' has each row of the others in which ours are more than std's, by more than a twentieth where they are times, and its reason (figures/reasons,
-lines 'ROW  REASON', 'of sets' behind a row of those; that of 'KIND' is the reason of each row 'KIND: CALL' or 'KIND, CALL' with none of its own). Without a reason of
-each the page is not written.
+lines 'ROW  REASON', 'of sets' behind a row of those; that of 'KIND' is the reason of each row 'KIND: CALL' or 'KIND, CALL' with none of its own). Without a
+reason of each the page is not written.
 """
 import pathlib
 import re
