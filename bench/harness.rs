@@ -4,14 +4,16 @@
 pub mod counted;
 pub mod folded;
 pub mod heap;
+pub mod items;
 pub mod keys;
 pub mod one_key;
 pub mod phases;
 pub mod random;
 pub mod rounds;
 pub mod sizes;
+pub mod stack;
 
-pub use counted::{count, tell, tell_second};
+pub use counted::{count, tell, tell_second, tell_second_of};
 pub use folded::Folded;
 pub use keys::Keys;
 pub use phases::{machine, mark};
@@ -23,6 +25,12 @@ pub fn start(words: &[(&str, fn())], otherwise: fn()) {
     let given = std::env::args().nth(1);
     let found = words.iter().find(|(word, _)| given.as_deref() == Some(*word));
     found.map_or(otherwise, |(_, run)| *run)();
+}
+
+/// Of the sizes, each with its rounds of runs, those that the command line names behind the word, or all where it names none.
+pub fn chosen<const N: usize>(sizes: [(usize, usize); N]) -> Vec<(usize, usize)> {
+    let named: Vec<String> = std::env::args().skip(2).collect();
+    sizes.into_iter().filter(|(size, _)| named.is_empty() || named.contains(&size.to_string())).collect()
 }
 
 /// Prints what the rows of a driver tell, and the machine.

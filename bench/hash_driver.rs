@@ -40,8 +40,8 @@ fn main() {
         let keys = Keys::new(pairs);
         let calls = [keys.inserted.len(), keys.sought.len()];
         let phases = compare(&keys, rounds, [run_ours, run_std]);
-        for ((name, phase), calls) in ["insert", "get"].iter().zip(&phases).zip(calls) {
-            phase.print_least(name, (6, 7, 1), calls);
+        for ((name, phase), calls) in ["TryHashMap::insert", "TryHashMap::get"].iter().zip(&phases).zip(calls) {
+            phase.print_least(name, (18, 7, 1), calls);
         }
     }
 }

@@ -25,6 +25,8 @@ COUNTS = [
     ("walks over the map, a pair", "walks_driver", "bench_jobs"),
     ("walks over sets, an item given", "sets_driver", "bench_jobs"),
     ("whole maps, a pair", "whole_driver", "bench_jobs"),
+    ("keys and values of other kinds, a call", "kinds_driver", "bench_kinds"),
+    ("loads and appends, a pair", "loads_driver", "bench_kinds"),
     ("the map of stretches, a call", "intervals_driver", "bench_uses"),
     ("timers, a call", "timers_driver", "bench_uses"),
     ("the table of rows, a call", "tables_driver", "bench_uses"),
@@ -85,7 +87,7 @@ def main():
     for tool in ("valgrind", "git"):
         if shutil.which(tool) is None:
             sys.exit(f"bench/instructions.py: {tool} is not on the path")
-    commit = subprocess.run(["git", "-C", BENCH, "describe", "--always", "--dirty"], capture_output=True, text=True).stdout.strip()
+    commit = subprocess.run([BENCH / "commit"], capture_output=True, text=True, check=False).stdout.strip()
     print(f"instructions at {commit}{'' if proved else ', unproved'}: ours / std's", flush=True)
     with tempfile.TemporaryDirectory() as folder:
         work = pathlib.Path(folder)

@@ -1,4 +1,4 @@
-//! The jobs of the crates `bench_jobs`, `bench_budget`, `bench_uses` and `bench_own`, of which each driver calls some.
+//! The jobs of the crates `bench_jobs`, `bench_kinds`, `bench_budget`, `bench_uses` and `bench_own`, of which each driver calls some.
 #![allow(dead_code)]
 
 /// What a job asks for where a phase begins or ends, as `mark` of these crates does.
@@ -46,6 +46,10 @@ jobs! {
     bench_map_read([bytes: u8], limit: u64, times: u64) -> u64;
     bench_map_copy_bytes([bytes: u8], way: u64, times: u64) -> u64;
     bench_map_push_numbers([], count: u64, times: u64) -> u64;
+    bench_kinds_run([numbers: u64, sought: u64, removed: u64], kind: u64) -> u64;
+    bench_kinds_entries([keys: u64, there: u64, starts: u64]) -> u64;
+    bench_kinds_load([keys: u64], times: u64) -> u64;
+    bench_kinds_append([keys: u64, others: u64]) -> u64;
     bench_budget_run([keys: u64, sought: u64, removed: u64], way: u64, is_in_budget: bool) -> u64;
     bench_budget_walk([keys: u64], times: u64, is_in_budget: bool) -> u64;
     bench_budget_whole([keys: u64, others: u64], way: u64, is_in_budget: bool) -> u64;

@@ -47,7 +47,7 @@ fn main() {
             limit: limit as u64,
             times,
         };
-        let name = format!("{limit:>10} bytes, {rounds} runs of {times} calls:");
-        compare(&job, rounds, [run_ours, run_std])[0].print_least(&name, (0, 11, 0), times as usize);
+        println!("{limit} bytes, {rounds} runs of {times} calls");
+        compare(&job, rounds, [run_ours, run_std])[0].print_least("read_into_try_vec", (17, 11, 0), times as usize);
     }
 }

@@ -1,96 +1,36 @@
 //! The most stack that calls on the ordered map take, by the kind of call and the number of pairs.
 //!
-//! Before each phase of a job (`harness/phases.rs` tells of them) the stack below is written full of one byte, and after it the lowest byte that
-//! is another one is looked for. A depth is counted from the caller of the job, so that the frames of the job and of the allocator count
-//! too: what it tells is too much rather than too little.
+//! `harness/phases.rs` tells how they are found.
+mod harness;
 mod jobs;
 
-use jobs::{MARK, bench_map_put, bench_map_run, bench_map_walk, bench_map_whole};
-use std::ffi::c_void;
+use harness::phases::depths;
+use jobs::{bench_map_put, bench_map_run, bench_map_walk, bench_map_whole};
 use std::hint::black_box;
-use std::ptr;
-
-const PAINTED: usize = 1 << 18;
-const BYTE: u8 = 0xa5;
-// The frames of what paints.
-const OWN: usize = 512;
-const MOST: usize = 8;
-
-unsafe extern "C" {
-    fn __real_malloc(size: usize) -> *mut c_void;
-}
-
-static mut TOP: usize = 0;
-static mut DEPTHS: [usize; MOST] = [0; MOST];
-static mut COUNT: usize = 0;
-
-#[inline(never)]
-fn here() -> usize {
-    let local = 0u8;
-    black_box(&raw const local) as usize
-}
-
-// Fills the stack below with the byte.
-#[inline(never)]
-fn paint() {
-    let end = here() - OWN;
-    for at in end - PAINTED..end {
-        unsafe { ptr::write_volatile(at as *mut u8, BYTE) };
-    }
-}
-
-// The lowest address of those painted that was written to since.
-#[inline(never)]
-fn lowest() -> usize {
-    let end = here() - OWN;
-    (end - PAINTED..end)
-        .find(|at| unsafe { ptr::read_volatile(*at as *const u8) } != BYTE)
-        .unwrap_or(end)
-}
-
-/// The linker puts this in the place of `malloc` (`--wrap=malloc`).
-#[unsafe(no_mangle)]
-pub unsafe extern "C" fn __wrap_malloc(size: usize) -> *mut c_void {
-    if size != MARK {
-        return unsafe { __real_malloc(size) };
-    }
-    unsafe {
-        DEPTHS[COUNT] = TOP - lowest();
-        COUNT += 1;
-    }
-    paint();
-    ptr::null_mut()
-}
 
 // The depth of each phase of a job.
-#[inline(never)]
-fn depths<T>(job: impl FnOnce() -> T) -> Vec<usize> {
-    unsafe {
-        COUNT = 0;
-        TOP = here();
-    }
-    job();
-    unsafe { DEPTHS[1..COUNT].to_vec() }
+fn depths_of<T>(job: impl FnOnce() -> T) -> Vec<usize> {
+    depths(|| _ = black_box(job()))
 }
 
 fn run(keys: &[u64], way: u64) -> Vec<usize> {
     // What is dropped at the end is the whole map in one job, and nothing in the other.
     let gone = if way == 9 { keys } else { &[] };
-    depths(|| bench_map_run(keys, keys, gone, way))
+    depths_of(|| bench_map_run(keys, keys, gone, way))
 }
 
 fn put(keys: &[u64], is_ready: bool) -> usize {
-    depths(|| bench_map_put(keys, is_ready))[0]
+    depths_of(|| bench_map_put(keys, is_ready))[0]
 }
 
 fn whole(keys: &[u64], others: &[u64], way: u64) -> usize {
     let at = keys[keys.len() / 2];
-    depths(|| bench_map_whole(keys, others, at, way))[0]
+    depths_of(|| bench_map_whole(keys, others, at, way))[0]
 }
 
 fn walk(keys: &[u64], way: u64) -> usize {
     let starts = [keys[keys.len() / 3]];
-    depths(|| bench_map_walk(keys, &starts, way, 1))[0]
+    depths_of(|| bench_map_walk(keys, &starts, way, 1))[0]
 }
 
 // The depth of each kind of call on a map of so many pairs, the most of those where they came in ascending order and in another one.

@@ -1,19 +1,23 @@
 #!/usr/bin/env python3
 """Makes the tables of docs/PERFORMANCE.md out of what the scripts printed, so that nobody copies a number.
 
-  bench/instructions.py >bench/figures/instructions      (and so bench/own.py, and bench/run of walks, sets, map and whole: each into a file of its name)
+  bench/instructions.py >bench/figures/instructions      (and so bench/own.py, and bench/run of walks, sets, map, whole, vec, hash, read and kinds: each into a
+                                 file of its name; kinds depths into depths, loads loads into loads, loads append into append)
   bench/instructions.py --unproved budget_driver >bench/figures/instructions_budget, and so of intervals_driver, timers_driver, tables_driver and
-                                 caches_driver in one run into instructions_uses, and all but these into instructions; misses into instructions_misses
+                                 caches_driver in one run into instructions_uses, of kinds_driver and loads_driver into instructions_kinds, and all but these
+                                 into instructions; misses into instructions_misses
   bench/table.py                 prints the tables
   bench/table.py --write         writes them into the page
 
 A table stands on the page between the lines '<!-- table: NAME -->' and '<!-- end -->'. NAME is 'instructions TITLE', with a title that bench/instructions.py
-prints: a row is then what it was before (figures/before, if it is there), what it is now, std's, and the most that was aimed at (figures/aims, lines 'MOST  TITLE: ROW');
-of maps in a budget it is theirs, that of the same jobs at `Global`, and what another title has as std's. Or NAME is a script, and maybe a unit: a column is then each of its
-titles that end in ': UNIT', and a cell ours, std's and the multiple that the script gave. Of a script with no file in figures/ the page stays as it is.
+prints: a row is then what it was before (figures/before, if it is there), what it is now, std's, and the most that was aimed at (figures/aims, lines
+'MOST  TITLE: ROW'); of maps in a budget it is theirs, that of the same jobs at `Global`, and what another title has as std's. Or NAME is a script, and maybe a
+unit: a column is then each of its titles that end in ': UNIT', and a cell ours, std's and the multiple that the script gave; before these stands a column of
+instructions where BESIDE names their title. Of a script with no file in figures/ the page stays as it is.
 
 The table 'above' has each row of the others in which ours are more than std's, by more than a twentieth where they are times, and its reason (figures/reasons,
-lines 'ROW  REASON', 'of sets' behind a row of those). Without a reason of each the page is not written.
+lines 'ROW  REASON', 'of sets' behind a row of those; that of 'KIND' is the reason of each row 'KIND: CALL' or 'KIND, CALL' with none of its own). Without a
+reason of each the page is not written.
 """
 import pathlib
 import re
@@ -49,7 +53,12 @@ def aims():
 
 # What was counted for itself, by how its title begins.
 USES = ["the map of stretches", "timers, a call", "the table of rows", "the cache"]
-APART = {"maps in a budget": "instructions_budget", "reads": "instructions_misses", **dict.fromkeys(USES, "instructions_uses")}
+KINDS = "keys and values of other kinds, a call"
+LOADS = "loads and appends, a pair"
+APART = {"maps in a budget": "instructions_budget", "reads": "instructions_misses"}
+APART |= dict.fromkeys(USES, "instructions_uses") | dict.fromkeys([KINDS, LOADS], "instructions_kinds")
+# The instructions that stand beside times.
+BESIDE = {"kinds": KINDS, "loads": LOADS, "append": LOADS}
 
 
 def counts_of(title):
@@ -58,7 +67,9 @@ def counts_of(title):
 
 
 def commit(path):
-    return re.match(r"instructions at (\S+?(?:, unproved)?):", printed(path)[0])[1]
+    """Where the figures were measured, as their head says, or nothing."""
+    said = re.search(r"(?m)^(?:instructions )?at (\S+?(?:, unproved)?):", "\n".join(path.read_text().splitlines()[:3]))
+    return said[1] if said else ""
 
 
 def of_instructions(title):
@@ -81,12 +92,24 @@ def of_budget(title):
     return lines + [f"| {name} | {ours} | {at_global} | {of_std[name]} |" for name, ours, at_global, _ in printed(path)[1][title]]
 
 
+def columns(script, unit):
+    """The columns of a table of times, each by its head: the row of each name (ours, std's, multiple)."""
+    times = {title: {row[0]: row[1:] for row in rows} for title, rows in printed(FIGURES / script)[1].items() if rows and title.endswith(unit)}
+    path = counts_of(BESIDE.get(script, ""))
+    if script not in BESIDE or not path.is_file():
+        return times
+    counted = {row[0]: row[1:] for row in printed(path)[1].get(BESIDE[script], []) if any(row[0] in rows for rows in times.values())}
+    at = "" if commit(path) == commit(FIGURES / script) else f" at {commit(path)}"
+    return {f"instructions{at}, 1000 pairs": counted, **times}
+
+
 def of_times(script, unit):
-    titles = {title: {row[0]: row[1:] for row in rows} for title, rows in printed(FIGURES / script)[1].items() if rows and title.endswith(unit)}
-    names = list(dict.fromkeys(name for rows in titles.values() for name in rows))
-    lines = ["| | " + " | ".join(title.split(":")[0] for title in titles) + " |", "|---" * (len(titles) + 1) + "|"]
+    by_head = columns(script, unit)
+    names = list(dict.fromkeys(name for rows in by_head.values() for name in rows))
+    at = commit(FIGURES / script)
+    lines = [f"| {at and f'at {at} '}| " + " | ".join(head.split(":")[0] for head in by_head) + " |", "|---" * (len(by_head) + 1) + "|"]
     for name in names:
-        cells = ["{} / {} ({})".format(*rows[name]) if name in rows else "" for rows in titles.values()]
+        cells = ["{} / {} ({})".format(*rows[name]) if name in rows else "" for rows in by_head.values()]
         lines.append(f"| {name} | " + " | ".join(cells) + " |")
     return lines
 
@@ -100,16 +123,23 @@ def reasons():
 def multiples(name):
     """Of a table's rows the multiples of std's that are too many, each with where it was measured: (row, where, multiple)."""
     script, _, title = name.partition(" ")
-    rows = printed(counts_of(title) if script == "instructions" else FIGURES / script)[1]
     if script == "instructions":
-        for row, ours, stds, _ in rows.get(title, []):
-            if float(ours) > float(stds):
-                yield row, "misses" if "miss" in title else "instructions", float(ours) / float(stds)
-        return
-    for of, measured in rows.items():
-        for row, _, _, multiple in measured if of.endswith(title and f": {title}") else []:
-            if float(multiple) > 1.05:
-                yield row, re.split(r"[,:]", of)[0], float(multiple)
+        of_rows = {row[0]: row[1:] for row in printed(counts_of(title))[1].get(title, [])}
+        by_head = {"misses" if "miss" in title else "instructions": of_rows}
+    else:
+        by_head = columns(script, title and f": {title}")
+    for head, rows in by_head.items():
+        where = "instructions" if head.startswith("instructions") else re.split(r"[,:]", head)[0]
+        is_counted = where in ("misses", "instructions")
+        for row, (ours, stds, median) in rows.items():
+            multiple = float(ours) / float(stds) if is_counted else float(median)
+            if multiple > (1 if is_counted else 1.05):
+                yield row, where, multiple
+
+
+def reason(call, why):
+    """That of the call, or of what it is made on or with, which stands before it."""
+    return why.get(call) or why.get(re.split("[:,] ", call)[0])
 
 
 def above(names):
@@ -120,12 +150,13 @@ def above(names):
             call = row if size and not size[0].isdigit() else call
             of = " of sets" if name.startswith("sets") or "over sets" in name else ""
             told = f"{where} at {size}" if call != row else where
-            found.setdefault(call + of, []).append(f"{multiple:.2f} ({told})")
+            # Some rows are counted by two drivers.
+            found.setdefault(call + of, {}).setdefault(told, f"{multiple:.2f} ({told})")
     lines = ["| Call | Ours as a multiple of std's | Why |", "|---|---|---|"]
     for call, told in found.items():
-        if call not in why:
-            sys.exit(f"figures/reasons has none of {call}: {', '.join(told)}")
-        lines.append(f"| {call} | {', '.join(told)} | {why[call]} |")
+        if not reason(call, why):
+            sys.exit(f"figures/reasons has none of {call}: {', '.join(told.values())}")
+        lines.append(f"| {call} | {', '.join(told.values())} | {reason(call, why)} |")
     return lines
 
 

@@ -24,11 +24,18 @@ pub fn count<J>(rows: &[(&str, usize)], job: &J, runs: Runs<J>) {
     }
 }
 
-/// The same of a job of one phase. It runs once before it is counted, and keeps what it made: so that the allocator has no blocks left over from other jobs,
-/// which would serve the one side and not the other.
-pub fn tell_second(who: usize, name: &str, calls: usize, job: impl Fn() -> u64) {
-    tell(who, &[("", 0), ("", 0), (name, calls)], || {
+/// The same of a job of so many phases, of which the first has the name. It runs once before it is counted, and keeps what it made: so that the allocator has
+/// no blocks left over from other jobs, which would serve the one side and not the other.
+pub fn tell_second_of(who: usize, name: &str, calls: usize, phases: usize, job: impl Fn() -> u64) {
+    let mut rows = vec![("", 0); 2 * phases + 1];
+    rows[phases + 1] = (name, calls);
+    tell(who, &rows, || {
         black_box(job());
         black_box(job());
     });
+}
+
+/// The same of a job of one phase.
+pub fn tell_second(who: usize, name: &str, calls: usize, job: impl Fn() -> u64) {
+    tell_second_of(who, name, calls, 1, job);
 }

@@ -1,11 +1,12 @@
-//! The phases of a job: when each ended, and how much memory the allocator then held.
+//! The phases of a job: when each ended, how much memory the allocator then held, and how much of the stack it took.
 //!
 //! A job runs inside the library and can read no clock. So it asks for `MARK` bytes between two phases: this program's `malloc`
 //! answers none, and takes the time. All requests of both maps go through that `malloc`, so neither is the slower for it.
+use super::stack::{here, lowest, paint};
 use crate::jobs::MARK;
 use std::ffi::{c_int, c_long, c_void};
-use std::fs;
 use std::ptr;
+use std::{env, fs};
 
 const MOST: usize = 8;
 // Not the clock of processor time: a guest's kernel takes the time that another guest stole off that one, at times in a later phase
@@ -33,18 +34,22 @@ struct Mark {
     // The time when the phase ended, and when the next began.
     ended: f64,
     begun: f64,
-    // What the allocator held, where that is asked for.
+    // What the allocator held, and how deep the stack went, where that is asked for.
     bytes: usize,
+    depth: usize,
 }
 
 const NONE: Mark = Mark {
     ended: 0.0,
     begun: 0.0,
     bytes: 0,
+    depth: 0,
 };
 static mut MARKS: [Mark; MOST] = [NONE; MOST];
 static mut COUNT: usize = 0;
 static mut WEIGHED: bool = false;
+// Where the stack of a job begins whose depth is asked for, or 0.
+static mut TOP: usize = 0;
 
 /// The linker puts this in the place of `malloc` (`--wrap=malloc`).
 #[unsafe(no_mangle)]
@@ -68,6 +73,8 @@ fn now() -> f64 {
 /// Ends a phase. `bench/instructions.py` looks for calls of it.
 #[inline(never)]
 pub fn mark() {
+    let top = unsafe { TOP };
+    let depth = if top > 0 { top - lowest() } else { 0 };
     let ended = now();
     unsafe {
         let bytes = if WEIGHED { mallinfo2().0[7] } else { 0 };
@@ -75,8 +82,12 @@ pub fn mark() {
             ended,
             begun: now(),
             bytes,
+            depth,
         };
         COUNT += 1;
+    }
+    if top > 0 {
+        paint();
     }
 }
 
@@ -100,8 +111,20 @@ pub fn weights(job: impl FnOnce()) -> Vec<usize> {
     (1..=count).map(|i| marks[i].bytes - marks[0].bytes).collect()
 }
 
-/// The machine, and what else it does.
+/// The bytes of stack that each phase of the job took, from its caller on, so that its own frames and those of the allocator count too: what it tells is too
+/// much rather than too little.
+#[inline(never)]
+pub fn depths(job: impl FnOnce()) -> Vec<usize> {
+    unsafe { TOP = here() };
+    let count = phases(job).len();
+    unsafe { TOP = 0 };
+    let marks = unsafe { MARKS };
+    (1..=count).map(|i| marks[i].depth).collect()
+}
+
+/// The machine, and what else it does, behind the commit that `bench/run` measures.
 pub fn machine() -> String {
+    let commit = env::var("COMMIT").map_or(String::new(), |commit| format!("at {commit}: "));
     let text = |file| fs::read_to_string(file).unwrap_or_default();
     let info = text("/proc/cpuinfo");
     let models: Vec<&str> = info
@@ -110,7 +133,7 @@ pub fn machine() -> String {
         .collect();
     let load = text("/proc/loadavg");
     format!(
-        "{} cores ({}), load {}",
+        "{commit}{} cores ({}), load {}",
         models.len(),
         models.first().unwrap_or(&"unknown"),
         load.split(' ').next().unwrap_or("unknown")

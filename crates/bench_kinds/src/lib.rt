@@ -1,0 +1,24 @@
+//! Jobs over maps as users have them, of other keys and values than numbers, by entries, loaded and appended, for drivers outside Rattle which measure
+//! them and compare their answers.
+#![tactic(auto)]
+
+mod entries;
+mod items;
+mod kinds;
+mod whole;
+
+use std::alloc::Global;
+
+// A checksum of all answers so far, which depends on each of them and on their order.
+fn mixed(checksum: u64, answer: Option<u64>) -> u64 {
+    let word = match answer {
+        Some(value) => value.wrapping_add(1),
+        None => 0,
+    };
+    checksum.rotate_left(5) ^ word
+}
+
+// Ends a phase: the driver's allocator refuses a request of so many bytes, and takes the time.
+fn mark(alloc: Global) -> bool {
+    Vec::<u8>::with_capacity(alloc, 1 << 62).is_err()
+}
