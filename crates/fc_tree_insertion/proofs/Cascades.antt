@@ -1,8 +1,8 @@
 -- How long a cascade is, and how many nodes it needs.
-use Rattle.std.proofs.Common.{◌≡◌, ℕ, zero, suc, ◌+◌, ◌*◌, ◌-◌, ◌<◌, ◌≤◌, true, false, ◌&&◌, ◌==◌, inl, inr, List, [], ◌∷◌, length, get_or, refl, sym, ap, ◌∙◌}
+use Rattle.std.proofs.Common.{◌≡◌, ℕ, zero, suc, ◌+◌, ◌*◌, ◌-◌, ◌<◌, ◌≤◌, true, false, ◌&&◌, ◌==◌, ◌⊎◌, inl, inr, List, [], ◌∷◌, length, get_or, refl, sym, ap, ◌∙◌}
 use Rattle.std.proofs.Common.{subst, arith, Option, Some, None, MatchOption}
 use Rattle.std.specs.Prelude.{slice_range, if◌then◌else◌}
-use Rattle.std.proofs.lemmas.Bool.{eq-eqb, ne_eqb}
+use Rattle.std.proofs.lemmas.Bool.{cases_lt, eq-eqb, ne_eqb}
 use Rattle.std.proofs.lemmas.Bool.Decides.{eqb_tells}
 use Rattle.fc_base.specs.Sizes.{capacity, most_split_moves}
 use Rattle.fc_tree_node.specs.declared.node.Node.{Node}
@@ -79,6 +79,14 @@ module _ {K V Z : Type 0} where
 
   pub needed_part : (p : List ℕ) (n : Node K V Z) → cascade p n < length p → nodes_needed p n ≡ cascade p n
   needed_part p n h = rw (part_full p n h) refl
+
+  -- a leaf with room is not split, and nothing above it
+  pub room_needs_none : (p : List ℕ) (n : Node K V Z) → 0 < length p → length (own_pairs (leaf_at p n)) < capacity → nodes_needed p n ≡ 0
+  room_needs_none p n some room = within (cases_lt 0 (cascade p n))
+    where
+      within : (0 < cascade p n) ⊎ (cascade p n ≤ 0) → nodes_needed p n ≡ 0
+      within (inl split) = absurd (let full = cascade_leaf p n some split in omega arith)
+      within (inr none) = let e = needed_part p n (omega arith) in omega arith
 
   pub needed_least : (p : List ℕ) (n : Node K V Z) → cascade p n ≤ nodes_needed p n
   needed_least p n = by_fullness p n (cascade p n ≤ nodes_needed p n) (λ f. rw f (omega arith)) (λ f. rw f (omega arith))

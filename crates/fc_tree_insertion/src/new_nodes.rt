@@ -5,6 +5,7 @@ ghost use Rattle.fc_tree_node.specs.Node.{own_pairs, IsLevelled};
 ghost use Rattle.fc_tree_node.specs.Path.{IsPath};
 ghost use Rattle.fc_tree_insertion.specs.Cascade.{leaf_at, cascade, nodes_needed};
 
+use crate::leaf::has_room;
 use crate::spares::Spares;
 use fc_base::{Handle, TryReserveError};
 use fc_tree_node::node::{CAPACITY, Node};
@@ -116,6 +117,10 @@ pub(crate) fn count_needed<K, V, A: Handle>(root: &Node<K, V, A>, path: &[u8]) -
     ensures few { result ≤ length path.now + 1 }
     ensures full { 0 < result → length (own_pairs (leaf_at path.now root.now)) ≡ capacity }
 {
+    // Few leaves are full, and their rest is seen by a loop.
+    if has_room(root, path) {
+        return 0;
+    }
     let split = count_full(root, path);
     if split == path.len() {
         split + 1

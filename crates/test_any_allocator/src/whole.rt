@@ -37,7 +37,7 @@ fn least_of_joining(budget: &Budget<Global>, count: u64) -> Result<usize, TryRes
     least(budget, &mut Joining { map, other, count })
 }
 
-// Of ten one leaf, and of 170 eleven and a root, each behind the list that it waits in.
+// Of ten one leaf, and of 170 two and a root, each behind the list that it waits in. The others are leaves of both maps.
 #[test]
 fn a_refused_append_leaves_both_maps(rt: HostRuntime) -> Result<(), Fail> {
     let budget = Budget::new(rt.alloc(), AMPLE);
@@ -46,7 +46,7 @@ fn a_refused_append_leaves_both_maps(rt: HostRuntime) -> Result<(), Fail> {
         least_of_joining(&budget, 5)?,
         least_of_joining(&budget, 85)?,
     ];
-    assert!(rt; seen == [0, NODE + LEAF, 12 * NODE + 11 * LEAF + INNER]);
+    assert!(rt; seen == [0, NODE + LEAF, 3 * NODE + 2 * LEAF + INNER]);
     assert!(rt; budget.used() == 0);
     Ok(())
 }
@@ -88,7 +88,7 @@ fn a_refused_append_leaves_both_sets(rt: HostRuntime) -> Result<(), Fail> {
         least_of_set_joining(&budget, 5)?,
         least_of_set_joining(&budget, 85)?,
     ];
-    assert!(rt; seen == [0, NODE + SET_LEAF, 12 * NODE + 11 * SET_LEAF + SET_INNER]);
+    assert!(rt; seen == [0, NODE + SET_LEAF, 3 * NODE + 2 * SET_LEAF + SET_INNER]);
     assert!(rt; budget.used() == 0);
     Ok(())
 }

@@ -28,13 +28,13 @@ fn an_append_of_five_and_five_asks_for_one_leaf(rt: HostRuntime) {
 }
 
 #[test]
-fn an_append_of_85_and_85_asks_for_eleven_leaves_and_a_root(rt: HostRuntime) {
+fn an_append_of_85_and_85_asks_for_two_leaves_and_a_root(rt: HostRuntime) {
     assert!(rt; is_right(appends_in_turns(rt.alloc(), 85, 85)));
 }
 
 // Together they fill a tree of two levels, so that a node more, or room for one, is seen.
 #[test]
-fn an_append_of_128_and_127_asks_for_sixteen_leaves_and_a_root(rt: HostRuntime) {
+fn an_append_of_128_and_127_asks_for_two_leaves_and_a_root(rt: HostRuntime) {
     assert!(rt; is_right(appends_in_turns(rt.alloc(), 128, 127)));
 }
 
