@@ -5,4 +5,4 @@
 pub mod append;
 mod grafting;
 mod join;
-pub mod merge;
+mod merge;

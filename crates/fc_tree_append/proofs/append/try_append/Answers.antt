@@ -33,13 +33,14 @@ returns-then-is_beyond-clause-emptied g c = ap (λ o. entries o) c.in_ok-try_joi
 pub returns-then-is_beyond-clause-sound : goal.returns-then-is_beyond-clause-sound
 returns-then-is_beyond-clause-sound g c = (c.in_ok-try_join.ensures.sound, subst (λ o. IsSoundMap o) (sym c.in_ok-try_join.ensures.emptied) tt)
 
-pub try_new-requires : goal.try_new-requires
-try_new-requires g c = builder_fits (param 0 g.row.K) (param 1 g.row.V) g.row.A g.A.Allocator g.met.A.Handle.small
+pub try_for_given_leaves-requires : goal.try_for_given_leaves-requires
+try_for_given_leaves-requires g c = builder_fits (param 0 g.row.K) (param 1 g.row.V) g.row.A g.A.Allocator g.met.A.Handle.small
 
 pub merge-root-requires : goal.merge-root-requires
 merge-root-requires g c =
     let x = c.take.ensures.value in
     let y = c.take-2.ensures.value in
+    let ok = c.in_ok-builder.ensures.ok in
     let ours = ap (λ o. length (entries o)) x in
     let theirs = ap (λ o. length (entries o)) y in
     let first = subst (λ o. IsAscending g.K.Ord.cmp (entries o)) (sym x) c.requires.order.0 in
@@ -49,7 +50,7 @@ merge-root-requires g c =
         (omega arith, omega arith),
         (
           (subst (λ o. IsSoundMap o) (sym x) c.requires.sound.0, subst (λ o. IsSoundMap o) (sym y) c.requires.sound.1),
-          ((first, second), (c.in_ok-builder.ensures.ok.0, omega (arith, c.in_ok-builder.ensures.ok.1))),
+          ((first, second), (ok.0, (omega (arith, ok.1), omega (arith, ok.1, ok.2)))),
         ),
       ),
     )
