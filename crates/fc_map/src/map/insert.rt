@@ -69,21 +69,11 @@ impl<K: Ord + Drop, V: Drop, A: Handle> BTreeMap<K, V, A> {
         ensures bounded { IsBounded (length (entries self.new)) count.old count.new }
     {
         let mut path = Path::new();
-        match self.locate(&key, &mut path, count) {
-            Ok(()) => Ok(Some(self.replace_at(&path, &key, value))),
-            Err(gap) => {
-                // Not by `insert_at`, whose answer would be made here and taken apart again.
-                let takes_no_memory = gap.has_room && self.len < usize::MAX;
-                if takes_no_memory {
-                    self.insert_in_room(&path, (key, value), count);
-                    return Ok(None);
-                }
-                match self.insert_growing(&mut path, key, value, count) {
-                    Ok(()) => Ok(None),
-                    Err(back) => Err(back),
-                }
-            }
-        }
+        let Err(gap) = self.locate(&key, &mut path, count) else {
+            return Ok(Some(self.replace_at(&path, &key, value)));
+        };
+        self.insert_at(&mut path, gap.has_room, key, value, count)?;
+        Ok(None)
     }
 
     /// `try_insert_counted` for who needs nothing back: a value that is replaced, and key and value that are refused, are dropped.
