@@ -1,6 +1,6 @@
 -- A new builder, and one whose last leaf was full.
-use Rattle.std.proofs.Common.{◌≡◌, ℕ, zero, suc, ◌+◌, ◌-◌, ◌*◌, ◌/◌, ◌^◌, ◌<◌, ◌≤◌, ◌⊎◌, inl, inr, min, List, [], ◌∷◌, ◌++◌, reverse, length, refl, sym, ap, ◌∙◌, subst, arith, append_assoc}
-use Rattle.std.proofs.Common.{append-nil, length-append, Option, Some, None, ◌↔◌}
+use Rattle.std.proofs.Common.{◌≡◌, ℕ, zero, suc, ◌+◌, ◌-◌, ◌*◌, ◌/◌, ◌^◌, ◌<◌, ◌≤◌, ◌⊎◌, inl, inr, min, List, [], ◌∷◌, ◌++◌, reverse, length, refl, sym, ap}
+use Rattle.std.proofs.Common.{◌∙◌, subst, arith, append_assoc, append-nil, length-append, Option, Some, None, ◌↔◌}
 use Rattle.std.proofs.lemmas.Bool.{cases_lt}
 use Rattle.std.proofs.lemmas.List.{reverse-append}
 use Rattle.std.specs.Option.{option_to_list}
@@ -56,7 +56,8 @@ no_pair count n (inl two) none = absurd (omega arith)
 no_pair count n (inr all) none = omega arith
 
 -- and their list has room for two
-pub first_two : (count n list room : ℕ) → count ≤ list → room ≡ most_children * count - 1 → (2 ≤ count) ⊎ (n ≤ most_children * count - 1) → (2 ≤ list) ⊎ (n ≤ room)
+pub first_two : (count n list room : ℕ) → count ≤ list → room ≡ most_children * count - 1 → (2 ≤ count) ⊎ (n ≤ most_children * count - 1)
+    → (2 ≤ list) ⊎ (n ≤ room)
 first_two count n list room few behind (inl two) = inl (omega arith)
 first_two count n list room few behind (inr all) = inr (omega arith)
 
@@ -187,7 +188,8 @@ module _ {K V Z : Type 0} where
   full_room (Some leaf) limit room spares list s l e few (inr a) = omega arith
 
 -- enough leaves stay enough
-pub still_enough : (list limit room less left new : ℕ) → new ≡ list → less + 1 ≡ limit → left + 1 ≡ room → (2 ≤ list) ⊎ (limit ≤ room) → (2 ≤ new) ⊎ (less ≤ left)
+pub still_enough : (list limit room less left new : ℕ) → new ≡ list → less + 1 ≡ limit → left + 1 ≡ room → (2 ≤ list) ⊎ (limit ≤ room)
+    → (2 ≤ new) ⊎ (less ≤ left)
 still_enough list limit room less left new same one two (inl a) = inl (omega arith)
 still_enough list limit room less left new same one two (inr a) = inr (omega arith)
 

@@ -22,7 +22,8 @@ returns-clause-pairs g c =
     let l = c.loop-their_pairs in
     let i = l.invariant in
     let done : (l.our_pairs.pairs ≡ []) ⊎ (l.their_pairs.pairs ≡ []) = elim c.loop-their_pairs-test.branch [
-      | then-loop-their_pairs-test+else-not-is_empty w ↦ inr (nil_from_length l.their_pairs.pairs (w.is_empty-in-loop-their_pairs.ensures.0 w.if-not-is_empty.false))
+      | then-loop-their_pairs-test+else-not-is_empty w ↦
+          inr (nil_from_length l.their_pairs.pairs (w.is_empty-in-loop-their_pairs.ensures.0 w.if-not-is_empty.false))
       | else-loop-their_pairs-test w ↦ inl (nil_from_length l.our_pairs.pairs (c.is_empty.ensures.0 w.loop-their_pairs-test.false))
     ] in
     c.finish.ensures.pairs ∙ c.push_all-2.ensures.pairs ∙ ap (λ zs. zs ++ l.their_pairs.pairs) c.push_all.ensures.pairs
@@ -90,7 +91,8 @@ push_all-requires-2 g c =
     let r = l.invariant.1 in
     let small = g.met.A.Handle.small in
     let e = ap length c.push_all.ensures.pairs ∙ length-append l.builder.pairs l.our_pairs.pairs in
-    let limit = rest_fits (length c.push_all.new.builder.pairs) c.push_all.new.builder.limit _ l.builder.limit (length l.our_pairs.pairs) _ c.push_all.ensures.filled e r.0 in
+    let after = c.push_all.new.builder in
+    let limit = rest_fits (length after.pairs) after.limit _ l.builder.limit (length l.our_pairs.pairs) _ c.push_all.ensures.filled e r.0 in
     let room = c.push_all.ensures.room l.their_pairs.in_leaf r.3.0 (both_fit (length l.our_pairs.pairs) _ _ l.builder.limit r.0 r.3.1) r.1 in (
       leaf_front_fits (param 0 g.row.K) (param 1 g.row.V) g.row.A g.A.Allocator small,
       (builder_fits (param 0 g.row.K) (param 1 g.row.V) g.row.A g.A.Allocator small, (r.3, (limit, room))),

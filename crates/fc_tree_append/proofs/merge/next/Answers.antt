@@ -10,6 +10,4 @@ returns-then-in_leaf-gt0-clause-room g c other few all room = let one = c.next_i
 pub returns-clause-room : goal.returns-clause-room
 returns-clause-room g c other few all room =
     let one = ap length c.next_leaf-pair.ensures.pairs in
-    let leaf = c.next_leaf-pair.ensures.leaf in
-    let more = c.give_leaf.ensures.room in
     omega arith

@@ -16,7 +16,6 @@ next-pair-requires g c =
 
 pub push-requires : goal.push-requires
 push-requires g c =
-    let i = c.loop-pairs.invariant in
     let some = c.next-pair.ensures.room 0 (omega arith) (omega arith) (omega arith) in
     (builder_fits (param 0 g.row.K) (param 1 g.row.V) g.row.A g.A.Allocator g.met.A.Handle.small, omega arith)
 

@@ -10,8 +10,8 @@ invariant-loop-pairs g l = IsOpenLeaf l.pairs
     × (l.pairs.in_leaf ≤ l.builder.room)
     × (l.builder.pairs ++ l.pairs.pairs ≡ l.initial.builder.pairs ++ l.initial.pairs.pairs)
     × (length l.builder.pairs + l.builder.limit ≡ length l.initial.builder.pairs + l.initial.builder.limit)
-    × ((other : ℕ) → other ≤ capacity → length l.initial.pairs.pairs + other ≤ l.initial.builder.limit → l.initial.pairs.in_leaf + other ≤ l.initial.builder.room
-    → (length l.pairs.pairs + other ≤ l.builder.limit) × (l.pairs.in_leaf + other ≤ l.builder.room))
+    × ((other : ℕ) → other ≤ capacity → length l.initial.pairs.pairs + other ≤ l.initial.builder.limit
+    → l.initial.pairs.in_leaf + other ≤ l.initial.builder.room → (length l.pairs.pairs + other ≤ l.builder.limit) × (l.pairs.in_leaf + other ≤ l.builder.room))
 
 abbrev pub decreases-loop-pairs : goal.decreases-loop-pairs
 decreases-loop-pairs g l = length l.pairs.pairs

@@ -1,10 +1,16 @@
-use Rattle.std.proofs.Common.{◌≡◌, ◌+◌, ◌<◌, [], ◌∷◌, ◌++◌, length, sym, ap, ◌∙◌, arith, length-append}
-use denote.Param.{param}
+use Rattle.std.proofs.Common.{◌≡◌, ◌+◌, ◌^◌, ◌<◌, [], ◌∷◌, ◌++◌, length, sym, ap, ◌∙◌, arith, length-append}
+use denote.Param.{param, layout, copied}
+use prog.Memory.{size}
+use Rattle.fc_tree_build.specs.contracts.builder.Builder as builder
 use Rattle.fc_tree_build.proofs.StackSizes.{builder_fits}
 use Rattle.fc_tree_append.proofs.JoinFacts.{step_less, step_equal, step_greater}
 use Rattle.fc_tree_append.proofs.merge.step.Given as given
 use Rattle.fc_tree_append.proofs.merge.step.Goals as goal
 use Rattle.fc_tree_append.proofs.merge.step.Goals.{After-next-pair, After-next-pair-in-Equal, After-next-pair-in-Greater}
+
+-- the builder's size
+fits : (g : given.Over) → size (layout (builder.the_row (param 0 g.row.K) (param 1 g.row.V) (copied 2 g.row.A) g.A.Allocator)) < 2 ^ 63
+fits g = builder_fits (param 0 g.row.K) (param 1 g.row.V) g.row.A g.A.Allocator g.met.A.Handle.small
 
 -- room for the pair that was taken, and for the rest of both open leaves
 after_ours : (g : given.Over) (c : After-next-pair g) → c.next-pair.new.pairs.in_leaf + c.args.theirs.now.in_leaf < c.next-pair.new.builder.room
@@ -30,17 +36,17 @@ after_theirs g c =
 pub push-requires : goal.push-requires
 push-requires g c =
     let left = after_ours g (goal.at.push-requires g c).After-next-pair in
-    (builder_fits (param 0 g.row.K) (param 1 g.row.V) g.row.A g.A.Allocator g.met.A.Handle.small, omega arith)
+    (fits g, omega arith)
 
 pub push-requires-in-Equal : goal.push-requires-in-Equal
 push-requires-in-Equal g c =
     let left = after_both g (goal.at.push-requires-in-Equal g c).After-next-pair-in-Equal in
-    (builder_fits (param 0 g.row.K) (param 1 g.row.V) g.row.A g.A.Allocator g.met.A.Handle.small, omega arith)
+    (fits g, omega arith)
 
 pub push-requires-in-Greater : goal.push-requires-in-Greater
 push-requires-in-Greater g c =
     let left = after_theirs g (goal.at.push-requires-in-Greater g c).After-next-pair-in-Greater in
-    (builder_fits (param 0 g.row.K) (param 1 g.row.V) g.row.A g.A.Allocator g.met.A.Handle.small, omega arith)
+    (fits g, omega arith)
 
 pub returns-in-Less-clause-room : goal.returns-in-Less-clause-room
 returns-in-Less-clause-room g c =
@@ -87,7 +93,8 @@ returns-in-Greater-clause-pairs g c =
 
 pub returns-in-Less-clause-filled : goal.returns-in-Less-clause-filled
 returns-in-Less-clause-filled g c =
-    let put = ap length (c.push.ensures.pairs ∙ ap (λ zs. zs ++ c.next-pair.result ∷ []) c.next-pair.ensures.kept) ∙ length-append _ (c.next-pair.result ∷ []) in
+    let pair = c.next-pair.result in
+    let put = ap length (c.push.ensures.pairs ∙ ap (λ zs. zs ++ pair ∷ []) c.next-pair.ensures.kept) ∙ length-append _ (pair ∷ []) in
     omega (arith, c.next-pair.ensures.limit, c.push.ensures.limit)
 
 pub returns-in-Equal-clause-filled : goal.returns-in-Equal-clause-filled

@@ -53,7 +53,8 @@ invariant_of-self-2 g c =
     let a = rw c.replace-full.ensures.value at c.attach.ensures in
     let n = enough_needed 0 _ (leaves_behind (Some leaf) s.limit) _ i.1 (omega (arith, l.1)) l.2 in
     let e = enough_left 0 _ _ _ _ s.spine _ i.1 l.2 q (a.short most_height l.2.0 n.1) a.worth a.used a.short in
-    let two = still_enough _ s.limit _ (s.limit - 1) _ _ c.take_spare.ensures.capacity one room (subst (λ o. (2 ≤ vec_capacity s.leaves) ⊎ (s.limit ≤ room_behind o (length s.leaves.items))) c.in-Some.is i.2) in
+    let behind = subst (λ o. (2 ≤ vec_capacity s.leaves) ⊎ (s.limit ≤ room_behind o (length s.leaves.items))) c.in-Some.is i.2 in
+    let two = still_enough _ s.limit _ (s.limit - 1) _ _ c.take_spare.ensures.capacity one room behind in
     rw c.replace-full.ensures.after ((omega arith, t.0.1), a.levels 0 i.1 (leaf_sound _ few l.0.1 (omega arith)), two, t.1, a.blank, e)
 
 pub returns-clause-pairs : goal.returns-clause-pairs
@@ -77,8 +78,8 @@ invariant_of-self g c =
     let behind = subst (λ o. (2 ≤ vec_capacity s.leaves) ⊎ (s.limit ≤ room_behind o (length s.leaves.items))) c.in-Some.is i.2 in (
       put_last leaf new c.args.pair s.limit (s.limit - 1) s.spine l.0 few pairs c.put_pair.ensures.leaf,
       i.1,
-      still_enough (vec_capacity s.leaves) s.limit (room_behind (Some leaf) (length s.leaves.items)) (s.limit - 1) (room_behind (Some new) (length s.leaves.items))
-          (vec_capacity s.leaves) refl one (put_room_behind leaf new c.args.pair (length s.leaves.items) few pairs) behind,
+      still_enough (vec_capacity s.leaves) s.limit (room_behind (Some leaf) (length s.leaves.items)) (s.limit - 1)
+          (room_behind (Some new) (length s.leaves.items)) (vec_capacity s.leaves) refl one (put_room_behind leaf new c.args.pair (length s.leaves.items) few pairs) behind,
       i.3,
       i.4,
       subst (λ n. IsEnough (length s.inner.items) n s.spine) (put_leaves leaf new c.args.pair s.limit (s.limit - 1) pairs one) l.2,

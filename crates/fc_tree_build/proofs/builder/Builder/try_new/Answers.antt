@@ -11,6 +11,5 @@ try_with_leaves-requires g c =
 
 pub returns-clause-ok : goal.returns-clause-ok
 returns-clause-ok g c =
-    let e = c.leaf_count.ensures in
     let all = leaves_enough c.args.n in
     IfOk-weaker c.try_with_leaves.result _ _ (λ b ok. (ok.0, (let room = ok.2 in omega arith), ok.1)) c.try_with_leaves.ensures.ok

@@ -24,8 +24,7 @@ invariant_of-result g c =
     let last = c.pop-last.result in
     let e = c.pop-last.ensures.items in
     let pairs = ap length (first_none all left last e ok.1) in
-    let room = first_room c.args.count all left last e ok.0 ok.1 (none g at) in
-    let list = c.in_ok-leaves.ensures.capacity in (
+    let room = first_room c.args.count all left last e ok.0 ok.1 (none g at) in (
       first_last c.args.n all left c.new.result last c.new.ensures e ok.1 (none g at) (λ z. no_pair c.args.count c.args.n c.requires.enough (sym ok.0 ∙ z)),
       subst (IsSpine 0) (sym c.new.ensures) tt,
       first_two c.args.count c.args.n _ _ (omega (arith, c.pop-last.ensures.capacity)) room c.requires.enough,

@@ -9,13 +9,15 @@ use Rattle.fc_tree_drain.proofs.leaf_front.LeafFront.is_empty.Goals as goal
 pub returns-then-run_len-eq0 : goal.returns-then-run_len-eq0
 returns-then-run_len-eq0 g c =
     let s = c.self.inside in
-    let size = ap length (sym (ap (λ f. f.pairs) c.self.view_is)) ∙ length-append (items_or_none s.run) (after_front s.nodes) in (
+    let same = ap (λ f. f.pairs) c.self.view_is in
+    let size = ap length (sym same) ∙ length-append (items_or_none s.run) (after_front s.nodes) in (
       λ t. let i = eqb-true _ _ t in let n = ap length (ap after_front (nil_from_length s.nodes (omega arith))) in omega arith,
-      λ e. eq-eqb _ 0 (let n = (none_front (items_or_none s.run) s.nodes c.self.invariant.0 (ap length (ap (λ f. f.pairs) c.self.view_is) ∙ e)).1 in omega arith),
+      λ e. eq-eqb _ 0 (let n = (none_front (items_or_none s.run) s.nodes c.self.invariant.0 (ap length same ∙ e)).1 in omega arith),
     )
 
 pub returns-else-run_len-eq0 : goal.returns-else-run_len-eq0
 returns-else-run_len-eq0 g c =
     let s = c.self.inside in
-    let size = ap length (sym (ap (λ f. f.pairs) c.self.view_is)) ∙ length-append (items_or_none s.run) (after_front s.nodes) in
+    let same = ap (λ f. f.pairs) c.self.view_is in
+    let size = ap length (sym same) ∙ length-append (items_or_none s.run) (after_front s.nodes) in
     let z = c.if-run_len-eq0.false in (λ t. absurd (z (eqb-true _ _ t)), λ e. absurd (omega arith))
