@@ -75,11 +75,12 @@ invariant_of-self g c =
     let pairs = c.put_pair.ensures.pairs in
     let few = subst (λ n. n < capacity) c.len.ensures.value c.if-len-lt-CAPACITY.true in
     let one = one_less s.limit l.1.0 in
-    let behind = subst (λ o. (2 ≤ vec_capacity s.leaves) ⊎ (s.limit ≤ room_behind o (length s.leaves.items))) c.in-Some.is i.2 in (
+    let list = vec_capacity s.leaves in
+    let room = put_room_behind leaf new c.args.pair (length s.leaves.items) few pairs in
+    let enough = subst (λ o. (2 ≤ vec_capacity s.leaves) ⊎ (s.limit ≤ room_behind o (length s.leaves.items))) c.in-Some.is i.2 in (
       put_last leaf new c.args.pair s.limit (s.limit - 1) s.spine l.0 few pairs c.put_pair.ensures.leaf,
       i.1,
-      still_enough (vec_capacity s.leaves) s.limit (room_behind (Some leaf) (length s.leaves.items)) (s.limit - 1)
-          (room_behind (Some new) (length s.leaves.items)) (vec_capacity s.leaves) refl one (put_room_behind leaf new c.args.pair (length s.leaves.items) few pairs) behind,
+      still_enough list s.limit _ (s.limit - 1) _ list refl one room enough,
       i.3,
       i.4,
       subst (λ n. IsEnough (length s.inner.items) n s.spine) (put_leaves leaf new c.args.pair s.limit (s.limit - 1) pairs one) l.2,
