@@ -30,10 +30,6 @@ pub leaves_enough : (n : ℕ) → n ≤ most_children * leaves_for n - 1
 leaves_enough zero = omega arith
 leaves_enough (suc n) = let some : leaves_for (suc n) ≡ suc n / most_children + 1 = refl in omega arith
 
-pub leaves_none : (n : ℕ) → n ≡ 0 → leaves_for n ≡ 0
-leaves_none zero e = refl
-leaves_none (suc n) e = absurd (omega arith)
-
 -- two leaves, or enough where they are fewer
 pub made_enough : (n leaves made : ℕ) → leaves ≡ leaves_for n → made ≡ min leaves 2 → (2 ≤ made) ⊎ (n ≤ most_children * made - 1)
 made_enough n leaves made e f = within (cases_lt leaves 2)

@@ -3,6 +3,7 @@ ghost use Rattle.std.specs.Prelude.{◌≡◌, min, ◌+◌, ◌-◌, ◌*◌, �
 ghost use Rattle.fc_base.specs.Sizes.{most_children};
 ghost use Rattle.fc_tree_node.specs.Node.{IsBlankLeaf};
 ghost use Rattle.fc_tree_node.specs.Tree.{entries, IsSoundMap};
+ghost use Rattle.fc_tree_build.specs.Spares.{leaves_for};
 
 use crate::spares::{inner_count, leaf_count, put_spare, take_spare, try_inner_nodes, try_leaves};
 use crate::spine::{Spine, attach, close, put_pair};
@@ -92,7 +93,7 @@ impl<K: Drop, V: Drop, A: Handle> Builder<K, V, A> {
         count: usize,
     ) -> Result<Builder<K, V, A>, TryReserveError>
         requires enough { (2 ≤ count) ⊎ (n ≤ most_children * count - 1) }
-        requires none { n ≡ 0 → count ≡ 0 }
+        requires few { count ≤ leaves_for n }
         ensures ok { IfOk result (λ b. (b.pairs ≡ []) × (b.limit ≡ n) × (b.room ≡ min n (most_children * count - 1))) }
         ensures error { IfErr result (λ e. e ≡ TryReserveError.AllocError) }
         ensures none { n ≡ 0 → IsOk result }

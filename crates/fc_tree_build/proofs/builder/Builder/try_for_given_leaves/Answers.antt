@@ -1,6 +1,6 @@
 use Rattle.std.proofs.Common.{rules, ◌∙◌, arith}
 use Rattle.std.proofs.lemmas.Result.{IfOk-weaker}
-use Rattle.fc_tree_build.proofs.Builders.{leaves_none, made_enough, made_room}
+use Rattle.fc_tree_build.proofs.Builders.{made_enough, made_room}
 use Rattle.fc_tree_build.proofs.builder.Builder.try_for_given_leaves.Goals as goal
 
 pub try_with_leaves-requires : goal.try_with_leaves-requires
@@ -8,7 +8,7 @@ try_with_leaves-requires g c = (
   search rules,
   (
     made_enough c.args.n c.leaf_count.result c.min.result c.leaf_count.ensures c.min.ensures,
-    λ z. (let none = c.leaf_count.ensures ∙ leaves_none c.args.n z in omega (arith, c.min.ensures)),
+    omega (arith, c.leaf_count.ensures, c.min.ensures),
   ),
 )
 

@@ -1,13 +1,12 @@
-use Rattle.std.proofs.Common.{rules, inr, ◌∙◌, arith}
+use Rattle.std.proofs.Common.{rules, inr, arith}
 use Rattle.std.proofs.lemmas.Result.{IfOk-weaker}
-use Rattle.fc_tree_build.proofs.Builders.{leaves_enough, leaves_none}
+use Rattle.fc_tree_build.proofs.Builders.{leaves_enough}
 use Rattle.fc_tree_build.proofs.builder.Builder.try_new.Goals as goal
 
 pub try_with_leaves-requires : goal.try_with_leaves-requires
 try_with_leaves-requires g c =
-    let e = c.leaf_count.ensures in
     let all = leaves_enough c.args.n in
-    (search rules, (inr (omega arith), λ z. e ∙ leaves_none c.args.n z))
+    (search rules, (inr (omega arith), omega arith))
 
 pub returns-clause-ok : goal.returns-clause-ok
 returns-clause-ok g c =
