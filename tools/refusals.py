@@ -115,13 +115,14 @@ def wholes():
     """The cases of commands on whole maps and sets, and of walks."""
     # Of 300 pairs there are at least 19 leaves, since each has 15 at the most, and above them three inner nodes: more requests than of 20 leaves.
     few, many = (ONE, range(12, 20), 1), (THREE, range(302, 602), 20)
+    # An append of many makes two leaves, an inner node, which takes two requests, and a list of each; the other leaves are those of both.
     for name, other, sizes in ("a", "b", (few, many)), ("b", "a", (few,)), ("s", "t", (few, many)), ("t", "s", (few,)):
         for keys, beyond, leaves in sizes:
             yield Row([extend(name, keys)], f"copy {name}", leaves)
             yield Row([extend(name, keys), extend(other, ONE)], f"copy {name}", leaves)
-            yield Row([extend(name, keys), extend(other, keys[::2])], f"append {name}", leaves)
+            yield Row([extend(name, keys), extend(other, keys[::2])], f"append {name}", min(leaves, 6))
             yield Row([extend(name, keys), extend(other, beyond)], f"append {name}", 2)
-            yield Row([extend(name, beyond), extend(other, keys)], f"append {name}", leaves)
+            yield Row([extend(name, beyond), extend(other, keys)], f"append {name}", min(leaves, 6))
             yield Row([extend(name, keys)], f"split {name} {keys[len(keys) // 2]}", 1 if leaves == 1 else 1 + 2 + 2)
             yield Row([extend(name, keys), extend(other, ONE)], f"split {name} {keys[-1]}", 1 if leaves == 1 else 1 + 2 + 2)
             yield Row([extend(name, keys)], f"walk {name} * * ffb", 1)
