@@ -12,6 +12,7 @@ mod clones;
 mod compare;
 mod copied;
 mod difference;
+mod extend;
 mod first_last;
 mod intersection;
 mod iter;

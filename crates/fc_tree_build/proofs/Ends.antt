@@ -1,22 +1,18 @@
--- The nodes of a spine one after another, and a tree opened at its right edge.
-use Rattle.std.proofs.Common.{◌≡◌, ℕ, zero, suc, ◌+◌, ◌-◌, ◌<◌, ◌≤◌, List, [], ◌∷◌, ◌++◌, length, map, refl, sym, ap, ◌∙◌, subst, arith, add-one}
+-- The nodes of a spine one after another.
+use Rattle.std.proofs.Common.{◌≡◌, ℕ, zero, suc, ◌+◌, ◌-◌, ◌<◌, List, [], ◌∷◌, ◌++◌, length, map, refl, sym, ap, ◌∙◌, subst, arith, add-one}
 use Rattle.std.proofs.Common.{append_assoc, length-append}
 use Rattle.std.specs.Prelude.{Bool, IsTrue, slice_index_or, get_or, take}
 use Rattle.std.specs.Ordering.{is_lt}
 use Rattle.std.specs.declared.cmp.Ordering.{Ordering}
 use Rattle.std.specs.declared.cmp.Ordering.TheVariants.{Less, Equal, Greater}
-use Rattle.std.specs.List.{AllByRecursion}
 use Rattle.std.proofs.lemmas.Bool.{false≢true}
 use Rattle.std.proofs.Math.Seq.{take-suc, take-length}
 use Rattle.std.proofs.lemmas.List.{length-map, nil_from_length}
-use Rattle.fc_base.specs.Sizes.{capacity}
 use Rattle.fc_tree_node.specs.declared.node.Node.{Node}
-use Rattle.fc_tree_node.specs.Node.{own_pairs, children_of, pairs_of, IsLeaf, IsSound, IsSoundRoot}
+use Rattle.fc_tree_node.specs.Node.{own_pairs, children_of, pairs_of}
 use Rattle.fc_tree_node.specs.Weave.{before_list}
-use Rattle.fc_tree_node.proofs.Lists.{all_front, all_back}
-use Rattle.fc_tree_node.proofs.Pairs.{leaf_children}
-use Rattle.fc_tree_drain.specs.Opened.{before_back_in, before_back, closing}
-use Rattle.fc_tree_drain.proofs.Opening.{whole_back, back_push, empty_back}
+use Rattle.fc_tree_drain.specs.Opened.{before_back, closing}
+use Rattle.fc_tree_drain.proofs.Opening.{back_push, empty_back}
 use Rattle.fc_tree_build.specs.Spine.{IsOpenEnd, IsSpine, level_above}
 use Rattle.fc_tree_build.specs.Built.{IsBehindLast}
 
@@ -99,46 +95,3 @@ module _ {K V Z : Type 0} where
   end_none s new b k e o l =
       let none = nil_from_length (children_of b) (omega arith) in
       back_push s new b e ∙ sym (empty_back b s 0 (omega arith, λ j. absurd (omega arith), none) l)
-
-  -- ---- a tree opened at its right edge
-
-  pub bottom : (h : ℕ) (n : Node K V Z) → IsSoundRoot h n → length (children_of n) ≡ 0 → (h ≡ 0) × (length (own_pairs n) ≤ capacity) × IsLeaf n
-  bottom zero n s e = (refl, s.1.0, s.1.1)
-  bottom (suc h) n s e = absurd (omega arith)
-
-  -- a node n, which without its last child c is m
-  pub record IsOpenedRight (h : ℕ) (n m c : Node K V Z) : Type 0 where
-    pub level : ℕ
-    pub above : h ≡ suc level
-    pub child : IsSoundRoot level c
-    pub opened : IsOpenEnd level m
-    pub pairs : pairs_of n ≡ before_back_in m ++ pairs_of c
-
-  pub opened_right : (h : ℕ) (n m c : Node K V Z) → IsSoundRoot h n → 0 < length (children_of n) → children_of n ≡ children_of m ++ c ∷ []
-      → own_pairs m ≡ own_pairs n → IsOpenedRight h n m c
-  opened_right zero n m c s l f e = absurd (let z = ap length (leaf_children n s.1.1) in omega arith)
-  opened_right (suc h) n m c s l f e =
-      let i = s.1.1 in
-      let a = ap length e in
-      let b = ap length f ∙ length-append (children_of m) (c ∷ []) in
-      let all = subst (AllByRecursion (IsSound h)) f s.1.2 in
-      let last = (all_back (IsSound h) (children_of m) (c ∷ []) all).0 in
-      record {
-        level = h;
-        above = refl;
-        child = (omega arith, last.1);
-        opened = (
-          omega arith,
-          λ leaf. (let z = ap length (leaf_children m leaf) in absurd (omega arith)),
-          omega arith,
-          all_front (IsSound h) (children_of m)
-              (c ∷ []) all,
-        );
-        pairs = whole_back n m c i f e;
-      }
-
-  pub opened_pairs : (old mid : List (Node K V Z)) (b n c : Node K V Z) (zs : List (K × V)) → mid ≡ old ++ b ∷ [] → pairs_of n ≡ before_back_in b ++ pairs_of c
-      → zs ≡ before_back mid ++ pairs_of c → zs ≡ before_back old ++ pairs_of n
-  opened_pairs old mid b n c zs e f g =
-      g ∙ ap (λ ys. ys ++ pairs_of c) (back_push old mid b e) ∙ append_assoc (before_back old) (before_back_in b) (pairs_of c)
-      ∙ ap (λ ys. before_back old ++ ys) (sym f)

@@ -82,13 +82,6 @@ module _ {K V Z : Type 0} where
   closed_sound s None low w = tt
   closed_sound s (Some root) low w = let l = level_is s in (w.0, omega arith, w.2)
 
-  pub opened_grown : (s : List (Node K V Z)) (leaf : Node K V Z) (n len : ℕ) (zs : List (K × V)) → len ≡ length zs → len + capacity ≤ 2 ^ 64 - 1
-      → before_back s ++ own_pairs leaf ≡ zs → n ≡ length (own_pairs leaf) → length (own_pairs leaf) ≤ capacity → IsLeaf leaf
-      → IsSpine 0 s × (length s ≤ most_height) → IsGrown s (Some leaf) (len - n)
-  opened_grown s leaf n len zs l fits e own most is levels =
-      let all = ap length (sym e) ∙ length-append (before_back s) (own_pairs leaf) in
-      ((omega arith, is, levels.0, levels.1), omega arith, omega arith)
-
   -- no room is left in a full leaf
   pub no_room : (leaf : Node K V Z) (r : ℕ) → capacity ≤ length (own_pairs leaf) → capacity - length (own_pairs leaf) ≡ r → 0 < r → ⊥
   no_room leaf r full e some = omega arith

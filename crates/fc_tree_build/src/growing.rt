@@ -10,7 +10,7 @@ ghost use Rattle.fc_tree_build.specs.Spine.{IsLastPair, IsSpine};
 
 use crate::spares::try_inner_nodes;
 use crate::spine::{
-    Spine, attach, close, has_room, last_of, needed, open_right, put_in_room, put_pair,
+    Spine, attach, close, has_room, last_of, needed, put_in_room, put_pair,
 };
 use fc_base::{Handle, TryReserveError};
 use fc_tree_drain::stack::Stack;
@@ -99,27 +99,6 @@ impl<K: Drop, V: Drop, A: Handle> GrowingBuilder<K, V, A> {
             spine: Stack::new(),
             last: None,
             before: 0,
-            alloc,
-        }
-    }
-
-    /// The tree at `root` of `len` pairs, taken apart at its right edge. It takes no memory, compares nothing and moves no pair.
-    pub fn over(alloc: A, root: Option<Node<K, V, A>>, len: usize) -> GrowingBuilder<K, V, A>
-        requires sound { IsSoundMap root }
-        requires len { len ≡ length (entries root) }
-        requires room { len + capacity ≤ usize.MAX }
-        ensures { result.pairs ≡ entries root }
-    {
-        let Some(root) = root else {
-            return GrowingBuilder::new(alloc);
-        };
-        let mut spine = Stack::new();
-        let leaf = open_right(&mut spine, root);
-        let before = len - leaf.len();
-        GrowingBuilder {
-            spine,
-            last: Some(leaf),
-            before,
             alloc,
         }
     }

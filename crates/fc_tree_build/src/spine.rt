@@ -2,7 +2,7 @@
 ghost use Rattle.std.specs.Prelude.{◌≡◌, ℕ, suc, ◌+◌, ◌-◌, ◌*◌, ◌<◌, ◌≤◌, ◌↔◌, [], ◌∷◌, ◌++◌, length, IsTrue};
 ghost use Rattle.std.specs.List.{AllByRecursion};
 ghost use Rattle.fc_base.specs.Sizes.{capacity, most_children, most_height, most_levels};
-ghost use Rattle.fc_tree_node.specs.Node.{own_pairs, children_of, pairs_of, IsLeaf, IsSound, IsSoundRoot, IsBlankInner};
+ghost use Rattle.fc_tree_node.specs.Node.{own_pairs, children_of, pairs_of, IsLeaf, IsSound, IsBlankInner};
 ghost use Rattle.fc_tree_node.specs.Bordered.{IsRightBordered};
 ghost use Rattle.fc_tree_drain.specs.Opened.{before_back_in, before_back};
 ghost use Rattle.fc_tree_build.specs.Spine.{IsLastPair, IsOpenEnd, IsSpine, level_above};
@@ -121,25 +121,6 @@ pub(crate) fn last_of<K, V, A: Handle>(spine: &Spine<K, V, A>) -> Option<&(K, V)
         }
     }
     last
-}
-
-/// Goes down to the last leaf, which it answers, and puts each node on the way at the spine's end, without its last child.
-pub(crate) fn open_right<K: Drop, V: Drop, A: Handle>(
-    spine: &mut Spine<K, V, A>,
-    node: Node<K, V, A>,
-) -> Node<K, V, A>
-    requires levels { (h : ℕ) × IsSoundRoot h node × IsSpine h spine.old × (length spine.old + h ≤ most_height) }
-    ensures pairs { before_back spine.new ++ own_pairs result ≡ before_back spine.old ++ pairs_of node }
-    ensures leaf { (length (own_pairs result) ≤ capacity) × IsLeaf result }
-    ensures levels { IsSpine 0 spine.new × (length spine.new ≤ most_height) }
-{
-    let mut node = node;
-    if node.child_count() == 0 {
-        return node;
-    }
-    let child = node.take_last_child();
-    spine.push(node);
-    open_right(spine, child)
 }
 
 // Takes the spine's last node out, or a blank one where it has none.

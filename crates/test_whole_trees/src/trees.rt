@@ -107,13 +107,9 @@ fn ends_before(tree: &GrowingBuilder<u64, u64>, key: u64) -> bool {
     }
 }
 
-// Puts the keys from `start` to `end` behind the others, each with itself.
-fn grows(
-    tree: &mut GrowingBuilder<u64, u64>,
-    start: u64,
-    end: u64,
-) -> Result<bool, TryReserveError> {
-    for key in start..end {
+// Puts the keys up to `end` one behind the other, each with itself.
+fn grows(tree: &mut GrowingBuilder<u64, u64>, end: u64) -> Result<bool, TryReserveError> {
+    for key in 0..end {
         if !ends_before(tree, key) {
             return Ok(false);
         }
@@ -125,30 +121,21 @@ fn grows(
     Ok(ends_before(tree, end))
 }
 
-// Whether a tree that grows to n keys is sound, and one that grows on from there, opened at its right edge.
-fn is_grown(alloc: Global, n: u64, end: u64) -> Result<bool, TryReserveError> {
+// Whether a tree that grows to n keys is sound.
+fn is_grown(alloc: Global, n: u64) -> Result<bool, TryReserveError> {
     let mut tree = GrowingBuilder::new(alloc);
-    if !grows(&mut tree, 0, n)? {
+    if !grows(&mut tree, n)? || tree.len() as u64 != n {
         return Ok(false);
     }
-    let len = tree.len();
-    if len as u64 != n || len > 1_000_000 {
-        return Ok(false);
-    }
-    let mut again = GrowingBuilder::over(alloc, tree.finish(), len);
-    if !grows(&mut again, n, end)? || again.len() as u64 != end {
-        return Ok(false);
-    }
-    Ok(is_sound(&again.finish(), 0, end))
+    Ok(is_sound(&tree.finish(), 0, n))
 }
 
 #[test]
 fn trees_that_grow(rt: HostRuntime) -> Result<(), Fail> {
     for n in 0..301 {
-        assert!(rt; is_grown(rt.alloc(), n, n)?);
-        assert!(rt; is_grown(rt.alloc(), n, 3 * n)?);
+        assert!(rt; is_grown(rt.alloc(), n)?);
     }
-    assert!(rt; is_grown(rt.alloc(), 4095, 5000)?);
+    assert!(rt; is_grown(rt.alloc(), 5000)?);
     Ok(())
 }
 

@@ -1,4 +1,4 @@
-//! Bulk insertion: items that ascend are pushed at the right edge of the map's tree.
+//! Bulk insertion: a map that is made of items, which are pushed at its right edge as long as they ascend.
 ghost use Rattle.std.specs.Prelude.{◌≡◌, ◌+◌, [], ◌∷◌, ◌++◌, length, IsTrue, IfOk, IfErr, IfSome, None};
 ghost use Rattle.std.specs.List.{AllByRecursion};
 ghost use Rattle.std.specs.declared.cmp.Ordering.TheVariants.{Less};
@@ -13,12 +13,14 @@ ghost use Rattle.fc_map.specs.BulkInsert.{IsBulkInsert};
 use super::{BTreeMap, for_sets};
 use fc_base::{Count, Handle, TryReserveError};
 use fc_tree_build::growing::GrowingBuilder;
-use fc_tree_node::node::CAPACITY;
 use std::alloc::Global;
 use std::marker::Model;
 use std::mem;
 
-/// A map while it is extended, seen as the list of its pairs: they stand in a tree that is open at its right edge, until an item comes that
+// A map of at most so many times as many pairs as there are items is merged with them; into a larger one they go one by one.
+const SPREAD: usize = 8;
+
+/// A map that is being made, seen as the list of its pairs: they stand in a tree that is open at its right edge, until an item comes that
 /// doesn't lie after the last one; then they stand in the map, and from there on each item is inserted from the root.
 #[derive(Drop)]
 pub struct BulkInsert<K: Ord, V, A: Handle = Global> {
@@ -39,23 +41,13 @@ impl<K: Ord, V, A: Handle> Model for BulkInsert<K, V, A> {
 }
 
 impl<K: Ord + Drop, V: Drop, A: Handle> BulkInsert<K, V, A> {
-    /// The map's pairs, which are taken out of it. It takes no memory and compares nothing.
-    pub fn over(map: &mut BTreeMap<K, V, A>) -> BulkInsert<K, V, A>
-        ensures { result ≡ entries map.old }
+    /// An insertion of no item yet. It takes no memory.
+    pub fn new(alloc: A) -> BulkInsert<K, V, A>
+        ensures { result ≡ [] }
     {
-        let alloc = map.alloc;
-        let mut map = mem::replace(map, BTreeMap::new(alloc));
-        if map.len > usize::MAX - CAPACITY {
-            return BulkInsert {
-                tree: GrowingBuilder::new(alloc),
-                map,
-            };
-        }
-        let len = mem::replace(&mut map.len, 0);
-        let root = map.root.take();
         BulkInsert {
-            tree: GrowingBuilder::over(alloc, root, len),
-            map,
+            tree: GrowingBuilder::new(alloc),
+            map: BTreeMap::new(alloc),
         }
     }
 
@@ -98,7 +90,7 @@ impl<K: Ord + Drop, V: Drop, A: Handle> BulkInsert<K, V, A> {
         ensures merged { IfOk result (λ _. self.new ≡ extended K.cmp self.old items.items) }
         ensures unchanged { IfErr result (λ back. (self.new ≡ self.old) × (back.items ≡ items.items)) }
     {
-        if self.map.len() == 0 {
+        if self.map.len == 0 || items.len() <= self.map.len / SPREAD {
             return Err(items);
         }
         self.map.merge(items)

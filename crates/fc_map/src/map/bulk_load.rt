@@ -1,4 +1,4 @@
-//! Bulk loads: a bulk insertion, and beside it the items that are gathered once many came out of order.
+//! Bulk loads: a map that is made of many items, those gathered that come after many out of order.
 ghost use Rattle.std.specs.Prelude.{◌≡◌, ◌<◌, [], ◌∷◌, ◌++◌, List, length, IfOk, IfErr, OnOk, None};
 ghost use Rattle.fc_base.specs.Ascending.{IsAscending};
 ghost use Rattle.fc_base.specs.Extended.{extended, IsExtendedUpTo};
@@ -24,7 +24,7 @@ const FEWEST: usize = 1024;
 
 const TIMES: usize = 8;
 
-/// A map while many items are put in. A contract sees the list of its pairs, and that of the items which are gathered.
+/// A map that is being made of many items. A contract sees the list of its pairs, and that of the items which are gathered.
 #[derive(Drop)]
 pub struct BulkLoad<K: Ord, V, A: Handle = Global> {
     placed: BulkInsert<K, V, A>,
@@ -45,14 +45,13 @@ impl<K: Ord, V, A: Handle> Model for BulkLoad<K, V, A> {
 }
 
 impl<K: Ord + Drop, V: Drop, A: Handle> BulkLoad<K, V, A> {
-    /// The map's pairs, which are taken out of it. It takes no memory and compares nothing.
-    pub fn over(map: &mut BTreeMap<K, V, A>) -> BulkLoad<K, V, A>
-        ensures placed { result.placed ≡ entries map.old }
+    /// A load of no item yet. It takes no memory.
+    pub fn new(alloc: A) -> BulkLoad<K, V, A>
+        ensures placed { result.placed ≡ [] }
         ensures gathered { result.gathered ≡ [] }
     {
-        let alloc = map.alloc;
         BulkLoad {
-            placed: BulkInsert::over(map),
+            placed: BulkInsert::new(alloc),
             gathered: Vec::new(alloc),
             single: SINGLE,
         }
@@ -81,29 +80,27 @@ impl<K: Ord + Drop, V: Drop, A: Handle> BulkLoad<K, V, A> {
         put_singly(&mut self.placed, &mut self.single, key, value)
     }
 
-    /// Puts the items in that are gathered.
+    /// The map of all items: those that are gathered are put in.
     ///
     /// # Errors
-    /// As `try_put`.
-    pub fn flush(&mut self) -> Result<(), TryReserveError>
-        ensures all { OnOk result (self.new.placed ≡ extended K.cmp self.old.placed self.old.gathered) }
-        ensures error { IfErr result (λ e. (rest : List (K × V)) → IsExtendedUpTo K.cmp self.old.placed (self.old.gathered ++ rest) self.new.placed e) }
-    {
-        put_gathered(&mut self.placed, &mut self.gathered)
-    }
-
-    /// The map of the pairs. Items that are gathered are dropped.
-    pub fn finish(self) -> BTreeMap<K, V, A>
-        ensures pairs { entries result ≡ self.placed }
-        ensures ascending { IsAscending K.cmp (entries result) }
-        ensures sound { IsSoundMap result }
+    /// As `try_put`. All is dropped.
+    pub fn finish(self) -> Result<BTreeMap<K, V, A>, TryReserveError>
+        ensures pairs { IfOk result (λ map. entries map ≡ extended K.cmp self.placed self.gathered) }
+        ensures ascending { IfOk result (λ map. IsAscending K.cmp (entries map)) }
+        ensures sound { IfOk result (λ map. IsSoundMap map) }
+        ensures error { IfErr result (λ e. (new : List (K × V)) × ((rest : List (K × V)) → IsExtendedUpTo K.cmp self.placed (self.gathered ++ rest) new e)) }
     {
         let BulkLoad {
             placed,
-            gathered: _,
+            gathered,
             single: _,
         } = self;
-        placed.finish()
+        let mut placed = placed;
+        let mut gathered = gathered;
+        match put_gathered(&mut placed, &mut gathered) {
+            Ok(()) => Ok(placed.finish()),
+            Err(error) => Err(error),
+        }
     }
 }
 

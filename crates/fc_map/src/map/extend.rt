@@ -1,58 +1,72 @@
-//! The items of an iterator, put into a map one after another.
-ghost use Rattle.std.specs.Prelude.{◌≡◌, ◌++◌, List, [], IfOk, IfErr, OnOk};
+//! The items of an iterator, put into a map one after another, or made a map.
+ghost use Rattle.std.specs.Prelude.{◌≡◌, ◌<◌, ◌++◌, List, [], length, IfOk, IfErr, OnOk, OnErr, None};
 ghost use Rattle.std.specs.Iterator.{IsFiniteIterable};
 ghost use Rattle.fc_base.specs.Ascending.{IsAscending};
 ghost use Rattle.fc_base.specs.Extended.{extended, IsExtendedUpTo};
+ghost use Rattle.fc_base.specs.Growth.{MayGrowRefuse};
+ghost use Rattle.fc_base.specs.OneKey.{put};
+ghost use Rattle.fc_base.specs.Parts.{at};
 ghost use Rattle.fc_vec.specs.Items.{GivesAll, GivesFirst};
 ghost use Rattle.fc_map.specs.Entries.{entries, IsSoundMap};
+ghost use Rattle.fc_map.specs.Full.{TakesNode};
 
 use super::BTreeMap;
 use super::bulk_load::BulkLoad;
-use fc_base::{Handle, TryReserveError};
+use fc_base::{Count, Handle, TryReserveError};
 use fc_vec::TryFromIterator;
 use std::alloc::Global;
 
 impl<K: Ord + Drop, V: Drop, A: Handle> BTreeMap<K, V, A> {
-    /// Puts all items that the iterator gives into the map, in turn, each as `try_insert` does: where an equal key is there, that
-    /// key stays and the new value takes the place of the old one, which is dropped. An item after all before it, those of the map too,
-    /// takes one comparison, as long as each before it did. Once many came out of order, items are gathered, sorted and merged with the pairs: that asks for
-    /// room for all of them and for all nodes at once; where that is refused, they go in one by one. Upstream: `BTreeMap::extend`, which panics where this call
-    /// answers an error.
+    /// Puts all items that the iterator gives into the map, each as `try_insert` does before the next is taken: where an equal key is there,
+    /// that key stays and the new value takes the place of the old one, which is dropped. It asks for what insertions ask for. An item after
+    /// all before it, those of the map too, takes one comparison, as long as each before it did. Many items of a vector, in any order, go in
+    /// faster by `try_extend_from_vec`. Upstream: `BTreeMap::extend`, which panics where this call answers an error.
     ///
     /// # Errors
-    /// At the first item that `try_insert` refuses, whose key is new, with that error. The items before it stay in the map. It is
-    /// dropped, and so is the iterator with the items after it.
+    /// At the first item that `try_insert` refuses, whose key is new, with that error. The items before it stay in the map, it is dropped, and
+    /// no item after it was taken: a lent iterator has them still.
     pub fn try_extend<I: IntoIterator<Item = (K, V)>>(
         &mut self,
         items: I,
     ) -> Result<(), TryReserveError>
         requires ends { IsFiniteIterable I.into_iter_gives I.IntoIter.can_next I.IntoIter.remaining items }
         ensures all { OnOk result ((all : List (K × V)) × GivesAll I.into_iter_gives I.IntoIter.next_gives items all × (entries self.new ≡ extended K.cmp (entries self.old) all)) }
-        ensures error { IfErr result (λ e. (taken : List (K × V)) × GivesFirst I.into_iter_gives I.IntoIter.next_gives items taken × ((rest : List (K × V)) → IsExtendedUpTo K.cmp (entries self.old) (taken ++ rest) (entries self.new) e)) }
+        ensures error { IfErr result (λ e. (taken : List (K × V)) × GivesFirst I.into_iter_gives I.IntoIter.next_gives items taken × (stop : IsExtendedUpTo K.cmp (entries self.old) taken (entries self.new) e) × (stop.rest ≡ [])) }
         ensures ascending { IsAscending K.cmp (entries self.new) }
         ensures sound { IsSoundMap self.new }
     {
-        let mut load = BulkLoad::over(self);
         for (key, value) in items {
-            match load.try_put(key, value) {
+            match self.put_next(key, value) {
                 Ok(()) => (),
-                Err(error) => {
-                    *self = load.finish();
-                    return Err(error);
-                }
+                Err(error) => return Err(error),
             }
         }
-        let done = load.flush();
-        *self = load.finish();
-        done
+        Ok(())
+    }
+
+    /// Puts the value at the key, as `put`, by one comparison where the key lies after all others.
+    ///
+    /// # Errors
+    /// As `try_insert`.
+    pub(crate) fn put_next(&mut self, key: K, value: V) -> Result<(), TryReserveError>
+        ensures put { IfOk result (λ _. entries self.new ≡ put K.cmp (entries self.old) key value) }
+        ensures unchanged { IfErr result (λ _. self.new ≡ self.old) }
+        ensures new_key { IfErr result (λ _. at K.cmp (entries self.old) key ≡ None) }
+        ensures error { IfErr result (λ e. MayGrowRefuse (length (entries self.old)) e) }
+        ensures only_full { OnErr result (length (entries self.old) < usize.MAX → TakesNode K.cmp key self.old) }
+    {
+        self.put(key, value, &mut Count::new())
     }
 }
 
-/// A map of the pairs that an iterator gives: insertions into an empty map, in turn, as `try_extend` does them. Of pairs with equal keys
-/// the first key stays, with the last value.
+/// A map of the pairs that an iterator gives, put into an empty map in turn: of pairs with equal keys the first key stays, with the last
+/// value. From the 257th out of order on, items are gathered, at least 1,024 and eight times as many as there are pairs, and then sorted
+/// and merged with these; where memory for that is refused, they go in one by one. Beside the pairs there are then at once the gathered
+/// items, room for as many to sort them, and the nodes of the new tree. An allocator with a cap takes `new` and `try_extend`, which asks for
+/// no more than insertions do.
 ///
 /// # Errors
-/// As `try_extend`; the map is then dropped with the pairs that it has.
+/// At the first item that `try_insert` refuses, with that error; all that was made or taken is dropped.
 impl<K: Ord + Drop, V: Drop> TryFromIterator<(K, V)> for BTreeMap<K, V> {
     ghost made_of = { λ all map. entries map ≡ extended K.cmp [] all };
 
@@ -68,8 +82,13 @@ impl<K: Ord + Drop, V: Drop> TryFromIterator<(K, V)> for BTreeMap<K, V> {
         ensures ascending { IfOk result (λ made. IsAscending K.cmp (entries made)) }
         ensures sound { IfOk result (λ made. IsSoundMap made) }
     {
-        let mut map = BTreeMap::new(alloc);
-        map.try_extend(iter)?;
-        Ok(map)
+        let mut load = BulkLoad::new(alloc);
+        for (key, value) in iter {
+            match load.try_put(key, value) {
+                Ok(()) => (),
+                Err(error) => return Err(error),
+            }
+        }
+        load.finish()
     }
 }

@@ -4,7 +4,7 @@ ghost use Rattle.std.specs.Prelude.{◌≡◌, ◌+◌, ◌<◌, List, length, I
 ghost use Rattle.fc_base.specs.Ascending.{IsAscending};
 ghost use Rattle.fc_base.specs.Growth.{MayGrowRefuse};
 ghost use Rattle.fc_base.specs.Joined.{placed};
-ghost use Rattle.fc_base.specs.OneKey.{cut};
+ghost use Rattle.fc_base.specs.OneKey.{cut, put};
 ghost use Rattle.fc_base.specs.Parts.{at};
 ghost use Rattle.fc_base.specs.Ranges.{within};
 ghost use Rattle.fc_map.specs.Counts.{IsBounded};
@@ -86,6 +86,25 @@ pub fn replace<K: Ord + Drop, V: Drop, A: Handle>(
             Err(back) => Err(back),
         },
     }
+}
+
+/// Puts the value at the key, as `BTreeMap::try_extend` does with each item.
+///
+/// # Errors
+/// As `BTreeMap::try_insert`. Key and value are dropped.
+pub fn put_next<K: Ord + Drop, V: Drop, A: Handle>(
+    map: &mut BTreeMap<K, V, A>,
+    key: K,
+    value: V,
+) -> Result<(), TryReserveError>
+    ensures put { IfOk result (λ _. entries map.new ≡ put K.cmp (entries map.old) key value) }
+    ensures unchanged { IfErr result (λ _. map.new ≡ map.old) }
+    ensures new_key { IfErr result (λ _. at K.cmp (entries map.old) key ≡ None) }
+    ensures error { IfErr result (λ e. MayGrowRefuse (length (entries map.old)) e) }
+    ensures ascending { IsAscending K.cmp (entries map.new) }
+    ensures sound { IsSoundMap map.new }
+{
+    map.put_next(key, value)
 }
 
 /// Where the map takes its memory.

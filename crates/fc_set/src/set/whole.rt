@@ -1,18 +1,13 @@
-//! Whole sets: joined, cut in two, copied, and extended by what an iterator gives or made of it.
-ghost use Rattle.std.specs.Prelude.{◌≡◌, ◌+◌, ◌<◌, ◌≤◌, ◌⊎◌, ◌++◌, true, List, [], length, IfOk, IfErr, OnOk, IsErr, MatchResult};
-ghost use Rattle.std.specs.Iterator.{IsFiniteIterable};
+//! Whole sets: joined, cut in two and copied.
+ghost use Rattle.std.specs.Prelude.{◌≡◌, ◌+◌, ◌<◌, ◌≤◌, ◌⊎◌, true, [], length, IfOk, IfErr, IsErr, MatchResult};
 ghost use Rattle.std.specs.List.{AllZip};
 ghost use Rattle.fc_base.specs.Copies.{MayRefuseCopies};
 ghost use Rattle.fc_base.specs.Growth.{MayAppendRefuse};
 ghost use Rattle.fc_map.specs.Entries.{IsSoundMap};
-ghost use Rattle.fc_vec.specs.Items.{GivesAll, GivesFirst};
-ghost use Rattle.fc_set.specs.Items.{items, smaller, not_smaller, AreAscending, joined_items, extended_items, AreExtendedUpTo};
+ghost use Rattle.fc_set.specs.Items.{items, smaller, not_smaller, AreAscending, joined_items};
 
 use super::BTreeSet;
 use fc_base::{Count, Handle, Query, TryClone, TryReserveError};
-use fc_map::map::bulk_load::BulkLoad;
-use fc_vec::TryFromIterator;
-use std::alloc::Global;
 
 impl<T: Ord + Drop, A: Handle> BTreeSet<T, A> {
     /// Takes all items of `other`, which is then empty. Where both sets hold an equal item, `other`'s stays, and ours is dropped. Where
@@ -78,35 +73,6 @@ impl<T: Ord + Drop, A: Handle> BTreeSet<T, A> {
         let map = self.map.split_off(item)?;
         Ok(BTreeSet { map })
     }
-
-    /// Puts all items that the iterator gives into the set, in turn, each as `try_insert` does: an equal item that is there stays. An item
-    /// after all before it, those of the set too, takes one comparison, as long as each before it did. Once many came out of order, items are gathered, sorted and
-    /// merged with those of the set, as `BTreeMap::try_extend` does it. Upstream: `BTreeSet::extend`, which panics where this call answers an error.
-    ///
-    /// # Errors
-    /// At the first item that `try_insert` refuses, which is new, with that error. The items before it stay in the set. It is dropped,
-    /// and so is the iterator with the items after it.
-    pub fn try_extend<I: IntoIterator<Item = T>>(&mut self, given: I) -> Result<(), TryReserveError>
-        requires ends { IsFiniteIterable I.into_iter_gives I.IntoIter.can_next I.IntoIter.remaining given }
-        ensures all { OnOk result ((all : List T) × GivesAll I.into_iter_gives I.IntoIter.next_gives given all × (items self.new ≡ extended_items T.cmp (items self.old) all)) }
-        ensures error { IfErr result (λ e. (taken : List T) × GivesFirst I.into_iter_gives I.IntoIter.next_gives given taken × ((rest : List T) → AreExtendedUpTo T.cmp (items self.old) (taken ++ rest) (items self.new) e)) }
-        ensures ascending { AreAscending T.cmp (items self.new) }
-        ensures sound { IsSoundMap self.new }
-    {
-        let mut load = BulkLoad::over(&mut self.map);
-        for item in given {
-            match load.try_put(item, ()) {
-                Ok(()) => (),
-                Err(error) => {
-                    self.map = load.finish();
-                    return Err(error);
-                }
-            }
-        }
-        let done = load.flush();
-        self.map = load.finish();
-        done
-    }
 }
 
 /// A copy of a set has a copy of each item, in order, made by its `try_clone`, in a tree of the same nodes; it takes its memory where
@@ -132,31 +98,5 @@ impl<T: Ord + TryClone, A: Handle> TryClone for BTreeSet<T, A> {
         // Shows that the copy is ascending and sound.
         let _len = copy.len();
         Ok(BTreeSet { map: copy })
-    }
-}
-
-/// A set of the items that an iterator gives: insertions into an empty set, in turn, as `try_extend` does them. Of equal items the first
-/// stays.
-///
-/// # Errors
-/// As `try_extend`; the set is then dropped with the items that it has.
-impl<T: Ord + Drop> TryFromIterator<T> for BTreeSet<T> {
-    ghost made_of = { λ all set. items set ≡ extended_items T.cmp [] all };
-
-    ghost may_refuse = { λ taken e. (new : List T) × ((rest : List T) → AreExtendedUpTo T.cmp [] (taken ++ rest) new e) };
-
-    fn try_from_iterator<I: IntoIterator<Item = T>>(
-        alloc: Global,
-        given: I,
-    ) -> Result<BTreeSet<T>, TryReserveError>
-        requires ends { IsFiniteIterable I.into_iter_gives I.IntoIter.can_next I.IntoIter.remaining given }
-        ensures made { IfOk result (λ made. (all : List T) × GivesAll I.into_iter_gives I.IntoIter.next_gives given all × (items made ≡ extended_items T.cmp [] all)) }
-        ensures error { IfErr result (λ e. (taken : List T) × GivesFirst I.into_iter_gives I.IntoIter.next_gives given taken × ((new : List T) × ((rest : List T) → AreExtendedUpTo T.cmp [] (taken ++ rest) new e))) }
-        ensures ascending { IfOk result (λ made. AreAscending T.cmp (items made)) }
-        ensures sound { IfOk result (λ made. IsSoundMap made) }
-    {
-        let mut set = BTreeSet::new(alloc);
-        set.try_extend(given)?;
-        Ok(set)
     }
 }
