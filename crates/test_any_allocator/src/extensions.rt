@@ -1,97 +1,130 @@
-//! Extensions, of which those items stay that came before the refused one.
-use crate::items::{has_items, items};
-use crate::least::all_but;
-use crate::numbers::{holds, numbers};
-use crate::sizes::{AMPLE, CAPACITY, INNER, LEAF, NODE, SET_INNER, SET_LEAF};
-use fc_base::TryReserveError;
+//! An extension asks for what insertions ask for, in whatever order the items come, and takes no item more off a lent iterator.
+use crate::sizes::AMPLE;
 use fc_budget::Budget;
-use std::alloc::Global;
+use fc_map::map::BTreeMap;
+use fc_set::set::BTreeSet;
+use std::alloc::{AllocError, Global};
 use std::test::Fail;
 
-// A map of 15 is extended by 20 behind them, with so many bytes left: how many numbers it has then, in order, and how many bytes more are out.
-fn extended(
-    alloc: Global,
-    budget: &Budget<Global>,
-    room: usize,
-) -> Result<(usize, usize), TryReserveError> {
-    let more = numbers(alloc, CAPACITY, 20, 1)?;
-    let mut map = numbers(budget, 0, CAPACITY, 1)?;
-    let _rest = all_but(budget, room)?;
-    let before = budget.used();
-    let is_whole = map.try_extend(more).is_ok();
-    let is_right = holds(&map, 0, map.len() as u64, 1) && is_whole == (map.len() == 35);
-    let more_bytes = budget.used().wrapping_sub(before);
-    Ok(if is_right {
-        (map.len(), more_bytes)
-    } else {
-        (0, AMPLE)
-    })
-}
+// How many orders there are.
+const ORDERS: u64 = 6;
 
-// The 16th takes a leaf, and a root behind the list that it waits in, which is then given back; so does the 32nd, a leaf.
-#[test]
-fn a_refused_extension_keeps_the_numbers_before(rt: HostRuntime) -> Result<(), Fail> {
-    let budget = Budget::new(rt.alloc(), AMPLE);
-    let first = LEAF + NODE + INNER;
-    let second = 2 * LEAF + INNER;
-    let mut seen = [(0, AMPLE); 5];
-    for i in 0..5 {
-        let room = [0, first - 1, first, second - 1, second][i];
-        seen[i] = extended(rt.alloc(), &budget, room)?;
+const SIZES: [u64; 10] = [1, 15, 16, 31, 100, 257, 300, 400, 801, 1_302];
+
+// A prime that divides no size.
+const JUMP: u64 = 769;
+
+// The number at a place of so many, in an order: ascending, descending, all over, in two runs, with one in a hundred out of place, or each one twice.
+fn number_at(order: u64, size: u64, place: u64) -> u64 {
+    let back = size.wrapping_sub(place);
+    match order {
+        0 => place,
+        1 => back,
+        2 => place.wrapping_mul(JUMP) % size,
+        3 => place.wrapping_mul(2) % (size | 1),
+        4 if place % 100 == 99 => back,
+        4 => place,
+        _ => place.wrapping_mul(JUMP) % (size / 2 + 1),
     }
-    let with_a_root = LEAF + INNER;
-    assert!(rt;
-        seen == [
-            (15, 0),
-            (15, 0),
-            (31, with_a_root),
-            (31, with_a_root),
-            (35, second)
-        ]
-    );
-    assert!(rt; budget.used() == 0);
-    Ok(())
 }
 
-fn extended_set(
-    alloc: Global,
-    budget: &Budget<Global>,
-    room: usize,
-) -> Result<(usize, usize), TryReserveError> {
-    let more = items(alloc, CAPACITY, 20, 1)?;
-    let mut set = items(budget, 0, CAPACITY, 1)?;
-    let _rest = all_but(budget, room)?;
-    let before = budget.used();
-    let is_whole = set.try_extend(more).is_ok();
-    let is_right = has_items(&set, 0, set.len() as u64, 1) && is_whole == (set.len() == 35);
-    let more_bytes = budget.used().wrapping_sub(before);
-    Ok(if is_right {
-        (set.len(), more_bytes)
+// How many pairs go into an empty map of so many bytes, one by one, before one is refused.
+fn inserted_pairs(alloc: Global, bytes: usize, order: u64, size: u64) -> u64 {
+    let budget = Budget::new(alloc, bytes);
+    let mut map = BTreeMap::new(&budget);
+    for place in 0..size {
+        if map
+            .try_insert(number_at(order, size, place), place)
+            .is_err()
+        {
+            return place;
+        }
+    }
+    size
+}
+
+// How many pairs of so many a refused extension of an empty map takes off a lent iterator but for the refused one; all where none is refused.
+fn extended_pairs(alloc: Global, bytes: usize, order: u64, size: u64) -> Result<u64, AllocError> {
+    let mut items = Vec::new(alloc);
+    for place in 0..size {
+        items.push((number_at(order, size, place), place))?;
+    }
+    let mut items = items.into_iter();
+    let budget = Budget::new(alloc, bytes);
+    let mut map = BTreeMap::new(&budget);
+    let taken = map.try_extend(&mut items).is_err() as u64;
+    Ok(size.wrapping_sub(items.len() as u64).wrapping_sub(taken))
+}
+
+// The same of items in a set.
+fn inserted_items(alloc: Global, bytes: usize, order: u64, size: u64) -> u64 {
+    let budget = Budget::new(alloc, bytes);
+    let mut set = BTreeSet::new(&budget);
+    for place in 0..size {
+        if set.try_insert(number_at(order, size, place)).is_err() {
+            return place;
+        }
+    }
+    size
+}
+
+fn extended_items(alloc: Global, bytes: usize, order: u64, size: u64) -> Result<u64, AllocError> {
+    let mut items = Vec::new(alloc);
+    for place in 0..size {
+        items.push(number_at(order, size, place))?;
+    }
+    let mut items = items.into_iter();
+    let budget = Budget::new(alloc, bytes);
+    let mut set = BTreeSet::new(&budget);
+    let taken = set.try_extend(&mut items).is_err() as u64;
+    Ok(size.wrapping_sub(items.len() as u64).wrapping_sub(taken))
+}
+
+fn inserted(alloc: Global, is_set: bool, bytes: usize, order: u64, size: u64) -> u64 {
+    if is_set {
+        inserted_items(alloc, bytes, order, size)
     } else {
-        (0, AMPLE)
-    })
+        inserted_pairs(alloc, bytes, order, size)
+    }
+}
+
+// The fewest bytes in which all go in one by one.
+fn least(alloc: Global, is_set: bool, order: u64, size: u64) -> usize {
+    let mut refused = 0usize;
+    let mut step = AMPLE / 2;
+    for _ in 0..AMPLE.ilog2() {
+        let bytes = refused.wrapping_add(step);
+        if inserted(alloc, is_set, bytes, order, size) != size {
+            refused = bytes;
+        }
+        step /= 2;
+    }
+    refused.wrapping_add(1)
+}
+
+// Whether an extension in the fewest bytes, in one byte fewer and in a third of them puts in what insertions do.
+fn is_same(alloc: Global, is_set: bool, order: u64, size: u64) -> Result<bool, AllocError> {
+    let enough = least(alloc, is_set, order, size);
+    for bytes in [enough, enough.wrapping_sub(1), enough / 3] {
+        let extended = if is_set {
+            extended_items(alloc, bytes, order, size)?
+        } else {
+            extended_pairs(alloc, bytes, order, size)?
+        };
+        if extended != inserted(alloc, is_set, bytes, order, size) {
+            return Ok(false);
+        }
+    }
+    Ok(true)
 }
 
 #[test]
-fn a_refused_extension_keeps_the_items_before(rt: HostRuntime) -> Result<(), Fail> {
-    let budget = Budget::new(rt.alloc(), AMPLE);
-    let first = SET_LEAF + NODE + SET_INNER;
-    let second = 2 * SET_LEAF + SET_INNER;
-    let mut seen = [(0, AMPLE); 5];
-    for i in 0..5 {
-        let room = [0, first - 1, first, second - 1, second][i];
-        seen[i] = extended_set(rt.alloc(), &budget, room)?;
+fn extensions_ask_for_what_insertions_ask_for(rt: HostRuntime) -> Result<(), Fail> {
+    for order in 0..ORDERS {
+        for size in SIZES {
+            assert!(rt; is_same(rt.alloc(), false, order, size)?);
+            assert!(rt; is_same(rt.alloc(), true, order, size)?);
+        }
     }
-    let with_a_root = SET_LEAF + SET_INNER;
-    assert!(rt;
-        seen == [
-            (15, 0),
-            (15, 0),
-            (31, with_a_root),
-            (31, with_a_root),
-            (35, second)
-        ]
-    );
-    assert!(rt; budget.used() == 0);
     Ok(())
 }

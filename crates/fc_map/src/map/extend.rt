@@ -1,6 +1,8 @@
 //! The items of an iterator, put into a map one after another, or made a map.
-ghost use Rattle.std.specs.Prelude.{◌≡◌, ◌<◌, ◌++◌, List, [], length, IfOk, IfErr, OnOk, OnErr, None};
+ghost use Rattle.std.specs.Prelude.{◌≡◌, ◌↔◌, ◌++◌, List, [], length, IsTrue, IfOk, IfErr, OnOk, None};
 ghost use Rattle.std.specs.Iterator.{IsFiniteIterable};
+ghost use Rattle.std.specs.List.{AllByRecursion};
+ghost use Rattle.std.specs.declared.cmp.Ordering.TheVariants.{Less};
 ghost use Rattle.fc_base.specs.Ascending.{IsAscending};
 ghost use Rattle.fc_base.specs.Extended.{extended, IsExtendedUpTo};
 ghost use Rattle.fc_base.specs.Growth.{MayGrowRefuse};
@@ -8,11 +10,11 @@ ghost use Rattle.fc_base.specs.OneKey.{put};
 ghost use Rattle.fc_base.specs.Parts.{at};
 ghost use Rattle.fc_vec.specs.Items.{GivesAll, GivesFirst};
 ghost use Rattle.fc_map.specs.Entries.{entries, IsSoundMap};
-ghost use Rattle.fc_map.specs.Full.{TakesNode};
 
 use super::BTreeMap;
 use super::bulk_load::BulkLoad;
 use fc_base::{Count, Handle, TryReserveError};
+use fc_tree_cursor::ends::last_gap_in;
 use fc_vec::TryFromIterator;
 use std::alloc::Global;
 
@@ -35,27 +37,57 @@ impl<K: Ord + Drop, V: Drop, A: Handle> BTreeMap<K, V, A> {
         ensures ascending { IsAscending K.cmp (entries self.new) }
         ensures sound { IsSoundMap self.new }
     {
+        let mut ascends = true;
         for (key, value) in items {
-            match self.put_next(key, value) {
+            match self.put_next(&mut ascends, key, value) {
                 Ok(()) => (),
-                Err(error) => return Err(error),
+                Err(refused) => return Err(refused),
             }
         }
         Ok(())
     }
 
-    /// Puts the value at the key, as `put`, by one comparison where the key lies after all others.
-    ///
-    /// # Errors
-    /// As `try_insert`.
-    pub(crate) fn put_next(&mut self, key: K, value: V) -> Result<(), TryReserveError>
+    // Puts the value at the key, as `put`; as long as each key ascends, behind all others, by one comparison.
+    pub(crate) fn put_next(
+        &mut self,
+        ascends: &mut bool,
+        key: K,
+        value: V,
+    ) -> Result<(), TryReserveError>
         ensures put { IfOk result (λ _. entries self.new ≡ put K.cmp (entries self.old) key value) }
         ensures unchanged { IfErr result (λ _. self.new ≡ self.old) }
         ensures new_key { IfErr result (λ _. at K.cmp (entries self.old) key ≡ None) }
         ensures error { IfErr result (λ e. MayGrowRefuse (length (entries self.old)) e) }
-        ensures only_full { OnErr result (length (entries self.old) < usize.MAX → TakesNode K.cmp key self.old) }
     {
+        *ascends = *ascends && self.is_after_all(&key);
+        if *ascends {
+            return self.put_last(key, value);
+        }
         self.put(key, value, &mut Count::new())
+    }
+
+    // Puts a pair after all others, whose keys are smaller: at the tree's right edge, without a search.
+    fn put_last(&mut self, key: K, value: V) -> Result<(), TryReserveError>
+        requires after { AllByRecursion (λ e. K.cmp e.0 key ≡ Less) (entries self.old) }
+        ensures put { IfOk result (λ _. entries self.new ≡ put K.cmp (entries self.old) key value) }
+        ensures unchanged { IfErr result (λ _. self.new ≡ self.old) }
+        ensures new_key { IfErr result (λ _. at K.cmp (entries self.old) key ≡ None) }
+        ensures error { IfErr result (λ e. MayGrowRefuse (length (entries self.old)) e) }
+    {
+        let mut path = last_gap_in(&self.root);
+        self.put_growing(&mut path, key, value, &mut Count::new())
+    }
+}
+
+impl<K: Ord, V, A: Handle> BTreeMap<K, V, A> {
+    // Whether the key lies after all keys: it is compared with the last one.
+    fn is_after_all(&self, key: &K) -> bool
+        ensures { IsTrue result ↔ AllByRecursion (λ e. K.cmp e.0 key.now ≡ Less) (entries self.now) }
+    {
+        match self.last_key_value() {
+            None => true,
+            Some((last, _value)) => last.cmp(key).is_lt(),
+        }
     }
 }
 

@@ -88,12 +88,13 @@ pub fn replace<K: Ord + Drop, V: Drop, A: Handle>(
     }
 }
 
-/// Puts the value at the key, as `BTreeMap::try_extend` does with each item.
+/// Puts the value at the key, as `BTreeMap::try_extend` does with each item: `ascends` is true at the first one.
 ///
 /// # Errors
 /// As `BTreeMap::try_insert`. Key and value are dropped.
 pub fn put_next<K: Ord + Drop, V: Drop, A: Handle>(
     map: &mut BTreeMap<K, V, A>,
+    ascends: &mut bool,
     key: K,
     value: V,
 ) -> Result<(), TryReserveError>
@@ -104,7 +105,7 @@ pub fn put_next<K: Ord + Drop, V: Drop, A: Handle>(
     ensures ascending { IsAscending K.cmp (entries map.new) }
     ensures sound { IsSoundMap map.new }
 {
-    map.put_next(key, value)
+    map.put_next(ascends, key, value)
 }
 
 /// Where the map takes its memory.

@@ -102,7 +102,7 @@ impl<K: Ord + Drop, V: Drop, A: Handle> BTreeMap<K, V, A> {
 
     // As `insert_growing`, for who needs nothing back. It is not inlined either.
     #[inline(never)]
-    fn put_growing(
+    pub(crate) fn put_growing(
         &mut self,
         path: &mut Path,
         key: K,

@@ -29,10 +29,11 @@ impl<T: Ord + Drop, A: Handle> BTreeSet<T, A> {
         ensures ascending { AreAscending T.cmp (items self.new) }
         ensures sound { IsSoundMap self.new }
     {
+        let mut ascends = true;
         for item in given {
-            match for_sets::put_next(&mut self.map, item, ()) {
+            match for_sets::put_next(&mut self.map, &mut ascends, item, ()) {
                 Ok(()) => (),
-                Err(error) => return Err(error),
+                Err(refused) => return Err(refused),
             }
         }
         Ok(())
