@@ -87,7 +87,7 @@ pub fn close<K: Drop, V: Drop, A: Handle>(
 
 /// Whether the spine's last node has room for one more subtree.
 pub(crate) fn has_room<K, V, A: Handle>(spine: &Spine<K, V, A>) -> bool
-    ensures { IsTrue result → needed spine.now ≡ 0 }
+    ensures { IsTrue result ↔ (needed spine.now ≡ 0) }
 {
     let len = spine.len();
     len > 0 && spine.get(len - 1).len() < CAPACITY

@@ -9,7 +9,7 @@ pub put_in_room-requires : goal.put_in_room-requires
 put_in_room-requires g c =
     let l = c.requires.levels in (
       nodes_fit (param 0 g.row.K) (param 1 g.row.V) g.row.A g.A.Allocator g.met.A.Handle.small,
-      ((l.0, rw c.replace-leaf.ensures.value l.1), (c.has_room.ensures (c.if-not-has_room.false), c.requires.low)),
+      ((l.0, rw c.replace-leaf.ensures.value l.1), (c.has_room.ensures.0 c.if-not-has_room.false, c.requires.low)),
     )
 
 pub returns-in-Ok-clause-pairs : goal.returns-in-Ok-clause-pairs
