@@ -1,7 +1,11 @@
 -- The ends of writing walks.
 use Rattle.std.proofs.Common.{◌≡◌, ℕ, zero, suc, ◌+◌, ◌-◌, ◌<◌, ◌≤◌, List, [], ◌∷◌, ◌++◌, length, take, get_or, slice_get, length-append, Some, None, refl, sym}
 use Rattle.std.proofs.Common.{ap, Bool, true, false, nat_eq, subst, ◌∙◌, arith}
+use Rattle.std.specs.List.{AllByRecursion}
 use Rattle.std.specs.Option.{option_map}
+use Rattle.std.specs.declared.cmp.Ordering.{Ordering}
+use Rattle.std.specs.declared.cmp.Ordering.TheVariants.{Less, Greater}
+use Rattle.std.proofs.lemmas.List.{nil_from_length}
 use Rattle.std.specs.Cmp.Lexicographic.{pointwise, other_text}
 use Rattle.fc_base.specs.Sizes.{capacity}
 use Rattle.fc_tree_node.specs.declared.node.Node.{Node}
@@ -10,8 +14,9 @@ use Rattle.fc_tree_node.specs.LeafGap.{IsLeafGap}
 use Rattle.fc_tree_node.specs.Path.{IsPath, before_gap, after_gap}
 use Rattle.fc_tree_node.specs.Place.{IsPlace, before_pair, after_pair}
 use Rattle.fc_tree_node.proofs.Gaps.{gap_pairs, place_pairs, take_item}
-use Rattle.fc_tree_node.proofs.Lists.{length_take}
+use Rattle.fc_tree_node.proofs.Lists.{all_front, length_take}
 use Rattle.fc_map.specs.Entries.{Map, entries, IsSoundMap}
+use Rattle.fc_map.specs.Place.{IsOpenAt}
 use Rattle.fc_tree_cursor.specs.Gap.{IsGapIn, AreEndsIn, zeros}
 use Rattle.fc_tree_search.specs.Written.{set_value}
 use Rattle.fc_map.specs.Writing.{Stretch, wrote_first, wrote_last}
@@ -52,6 +57,23 @@ module _ {K V : Type 0} where
         let l = sound.2.1 in
         let e = ap length (gap_pairs a h root l (s.1 h l) s.0) ∙ length-append (before_gap a root) (after_gap a root) in
         omega (arith, e)
+
+    -- a key that lies after all others goes into the gap after all pairs
+    pub last_open : {Q : Type 0} (cmp : K → Q → Ordering) (k : Q) (m : Map K V Z) (gap : List ℕ) → IsSoundMap m → IsGapIn m gap
+        → length (before_gap_in m gap) ≡ length (entries m) → AllByRecursion (λ e. cmp e.0 k ≡ Less) (entries m) → IsOpenAt cmp k m gap
+    last_open cmp k None gap sound s all below = s
+    last_open cmp k (Some root) gap sound s all below =
+        let h = sound.0 in
+        let l = sound.2.1 in
+        let parts = gap_pairs gap h root l (s.1 h l) s.0 in
+        let e = ap length parts ∙ length-append (before_gap gap root) (after_gap gap root) in
+        let none : after_gap gap root ≡ [] = nil_from_length (after_gap gap root) (omega (arith, e, all)) in
+        record {
+          way = s.0;
+          levels = s.1;
+          front = all_front (λ e. cmp e.0 k ≡ Less) (before_gap gap root) (after_gap gap root) (subst (AllByRecursion (λ e. cmp e.0 k ≡ Less)) parts below);
+          back = subst (AllByRecursion (λ e. cmp e.0 k ≡ Greater)) (sym none) tt;
+        }
 
     -- where a pair lies before a gap, all gaps are gaps of leaves
     pub gap_some : (m : Map K V Z) (gap other : List ℕ) → IsSoundMap m → IsGapIn m gap → 0 < length (before_gap_in m other) → 0 < length gap

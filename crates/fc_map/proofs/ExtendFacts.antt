@@ -24,6 +24,7 @@ use Rattle.fc_base.specs.Growth.{MayGrowRefuse}
 use Rattle.fc_base.specs.OneKey.{put}
 use Rattle.fc_base.specs.Parts.{below, above, at}
 use Rattle.fc_tree_build.specs.Built.{Grown, IsBehindLast}
+use Rattle.fc_tree_build.proofs.Ends.{less_if, less_then}
 use Rattle.fc_map.specs.Entries.{Map, entries}
 use Rattle.fc_map.specs.BulkInsert.{IsBulkInsert}
 
@@ -40,6 +41,14 @@ module _ {K V : Type 0} (cmp : K → K → Ordering) where
     new_key = absent;
     error = error;
   }
+
+  -- The same where no more than the refused item was taken.
+  pub stopped_at_last : (s front new : List (K × V)) (item : K × V) (e : TryReserveError) → new ≡ extended cmp s front → at cmp new item.0 ≡ None
+      → MayGrowRefuse (length new) e → (stop : IsExtendedUpTo cmp s (front ++ item ∷ []) new e) × (stop.rest ≡ [])
+  stopped_at_last s front new item e is absent error = (
+    record { front = front; item = item; rest = []; taken = refl; put_in = is; new_key = absent; error = error },
+    refl,
+  )
 
   -- ---- a key after all others
 
@@ -67,6 +76,14 @@ module _ {K V : Type 0} (cmp : K → K → Ordering) where
       go : (front : List (K × V)) → IsAscending cmp (front ++ last ∷ []) → AllByRecursion (λ e. cmp e.0 k ≡ Less) (front ++ last ∷ [])
       go [] a = (less, tt)
       go (x ∷ front) a = (total.trans x.0 last.0 k (all_back (λ y. cmp x.0 y.0 ≡ Less) front (last ∷ []) a.0).0 less, go front a.1)
+
+  -- Whether it is, as it compares with the last one.
+  pub is_after_all : (s front : List (K × V)) (last : K × V) (k : K) (b : Bool) → IsTotalOrder cmp → s ≡ front ++ last ∷ [] → IsAscending cmp s
+      → b ≡ is_lt (cmp last.0 k) → IsTrue b ↔ AllByRecursion (λ e. cmp e.0 k ≡ Less) s
+  is_after_all s front last k b total e a is = (
+    λ h. behind s front last k total e a (less_if _ _ is h),
+    λ all. less_then _ _ is (all_back (λ e. cmp e.0 k ≡ Less) front (last ∷ []) (subst (AllByRecursion (λ e. cmp e.0 k ≡ Less)) e all)).0,
+  )
 
   pub ascending_behind : (s new : List (K × V)) (k : K) (v : V) → IsTotalOrder cmp → new ≡ s ++ (k, v) ∷ [] → AllByRecursion (λ e. cmp e.0 k ≡ Less) s
       → IsAscending cmp s → IsAscending cmp new
@@ -180,6 +197,3 @@ push_refusal s n e l few is full =
     blank_or_full : (s ≡ []) ⊎ (capacity ≤ length s) → (length s ≡ 0) ⊎ (capacity ≤ length s)
     blank_or_full (inl none) = inl (ap length none)
     blank_or_full (inr many) = inr many
-
-pub still_counted : (n l : ℕ) → n ≡ l → l ≤ 2 ^ 64 - 1 - capacity → n + capacity ≤ 2 ^ 64 - 1
-still_counted n l e h = omega arith

@@ -109,7 +109,13 @@ fn is_right_set(alloc: Global, order: u64) -> Result<bool, TryReserveError> {
     for place in 0..100 {
         set.try_insert(key_at(order, place))?;
     }
-    set.try_extend((0..ITEMS).map(|place| key_at(order, place)))?;
+    let mut items = Vec::new(alloc);
+    for place in 0..ITEMS {
+        items.push(key_at(order, place))?;
+    }
+    if set.try_extend_from_vec(items).is_err() {
+        return Ok(false);
+    }
     let mut walk = set.iter();
     for _item in 0..set.len() {
         let Some(item) = walk.next() else {

@@ -1,8 +1,9 @@
-//! Maps that are extended by so many items in no order that most are gathered, where memory is refused.
+//! Maps that are made of many items in no order, or extended by a vector of them, where memory is refused.
 use crate::extend::{tracked_map, tracked_pairs};
 use crate::map::{Tracked, fresh_drops, were_all_dropped};
 use crate::numbers::{Numbers, has, multiples};
 use fc_base::TryReserveError;
+use fc_vec::TryFromIterator;
 use std::alloc::{AllocError, Global};
 use test_values::is_ample;
 
@@ -27,63 +28,40 @@ fn items(alloc: Global) -> Result<Vec<(u64, u64)>, AllocError> {
     Ok(all)
 }
 
-fn extend(map: &mut Numbers, items: Vec<(u64, u64)>) -> Result<(), TryReserveError> {
-    map.try_extend(items)
-}
-
-// How many of the items are in the map, which had the numbers below 85, each with its threefold.
-fn front(map: &Numbers) -> u64 {
-    let mut count = 0u64;
-    for place in 0..NUMBERS {
-        let is_there = has(map, number_at(place), place)
-            || has(map, number_at(place), place.wrapping_add(NUMBERS));
-        if !is_there {
-            return count;
-        }
-        count = count.wrapping_add(1);
-    }
+// Whether the map has each number with the place of its last item, and no other.
+fn has_all(map: &Numbers) -> bool {
     for place in NUMBERS..ITEMS {
         if !has(map, number_at(place), place) {
-            return count;
-        }
-        count = count.wrapping_add(1);
-    }
-    count
-}
-
-// Whether the map is what a front of the items leaves.
-fn is_extended_by(map: &Numbers, count: u64) -> bool {
-    for place in 0..NUMBERS {
-        let number = number_at(place);
-        let again = place.wrapping_add(NUMBERS);
-        let is_right = if again < count {
-            has(map, number, again)
-        } else if place < count {
-            has(map, number, place)
-        } else if number < 85 {
-            has(map, number, number.wrapping_mul(3))
-        } else {
-            !map.contains_key(&number)
-        };
-        if !is_right {
             return false;
         }
     }
-    true
+    map.len() as u64 == NUMBERS
 }
 
-// Whether the answer fits so many items.
-fn is_told(done: Result<(), TryReserveError>, count: u64) -> bool {
-    match done {
-        Ok(()) => count == ITEMS,
-        Err(TryReserveError::AllocError) => count < ITEMS,
-        Err(_other) => false,
+// Whether the items stand there as they were.
+fn are_all(items: &[(u64, u64)]) -> bool {
+    for place in 0..items.len() {
+        let item = place as u64;
+        if items[place] != (number_at(item), item) {
+            return false;
+        }
     }
+    items.len() as u64 == ITEMS
+}
+
+// Whether the map has the numbers below `count`, each with its threefold, and no other.
+fn has_multiples(map: &Numbers, count: u64) -> bool {
+    for number in 0..count {
+        if !has(map, number, number.wrapping_mul(3)) {
+            return false;
+        }
+    }
+    map.len() as u64 == count
 }
 
 // Each request is refused in turn by the sweep.
 #[test]
-fn a_refused_load_keeps_the_items_before(rt: HostRuntime) {
+fn a_refused_vector_comes_back_and_leaves_the_map(rt: HostRuntime) {
     let Ok(mut map) = multiples(rt.alloc(), 0, 85, 3) else {
         assert!(rt; !is_ample(rt.alloc()));
         return;
@@ -92,9 +70,55 @@ fn a_refused_load_keeps_the_items_before(rt: HostRuntime) {
         assert!(rt; !is_ample(rt.alloc()));
         return;
     };
-    let done = extend(&mut map, items);
-    let count = front(&map);
-    assert!(rt; is_told(done, count) && is_extended_by(&map, count));
+    let is_right = match map.try_extend_from_vec(items) {
+        Ok(()) => has_all(&map),
+        Err((items, TryReserveError::AllocError)) => are_all(items.as_slice())
+            && has_multiples(&map, 85),
+        Err(_other) => false,
+    };
+    assert!(rt; is_right);
+}
+
+// A number that is there, and two behind it, each with its threefold.
+fn few(alloc: Global) -> Result<Vec<(u64, u64)>, AllocError> {
+    let mut items = Vec::with_capacity(alloc, 3)?;
+    for number in 199..202u64 {
+        items.push((number, 3 * number))?;
+    }
+    Ok(items)
+}
+
+// Each request is refused in turn by the sweep. Three items go into a map of 200 by nodes that are reserved.
+#[test]
+fn a_refused_vector_of_few_items_comes_back_and_leaves_the_map(rt: HostRuntime) {
+    let Ok(mut map) = multiples(rt.alloc(), 0, 200, 3) else {
+        assert!(rt; !is_ample(rt.alloc()));
+        return;
+    };
+    let Ok(items) = few(rt.alloc()) else {
+        assert!(rt; !is_ample(rt.alloc()));
+        return;
+    };
+    let is_right = match map.try_extend_from_vec(items) {
+        Ok(()) => has_multiples(&map, 202),
+        Err((items, TryReserveError::AllocError)) => items.len() == 3 && has_multiples(&map, 200),
+        Err(_other) => false,
+    };
+    assert!(rt; is_right);
+}
+
+// Each request is refused in turn by the sweep: where the sorted way is refused, the items that were gathered go in one by one.
+#[test]
+fn a_load_that_is_refused_a_request_loses_no_item(rt: HostRuntime) {
+    let Ok(items) = items(rt.alloc()) else {
+        assert!(rt; !is_ample(rt.alloc()));
+        return;
+    };
+    let is_right = match Numbers::try_from_iterator(rt.alloc(), items) {
+        Ok(map) => has_all(&map),
+        Err(error) => matches!(error, TryReserveError::AllocError),
+    };
+    assert!(rt; is_right);
 }
 
 // Whether a map has all 170 numbers, or the allocator refused.

@@ -1,8 +1,10 @@
+use Rattle.std.proofs.Common.{◌≡◌}
+use Rattle.fc_base.specs.Ascending.{IsAscending}
+use Rattle.fc_base.specs.Extended.{extended}
 use Rattle.fc_map.specs.Entries.{entries}
-use Rattle.fc_map.specs.BulkLoad.{IsLoaded}
 use Rattle.fc_map.proofs.map.BTreeMap.try_extend.Given as goal
 
 abbrev pub invariant-loop-key : goal.invariant-loop-key
 invariant-loop-key g l = (goal.iterator-loop-key g).can_next l.key-iterator
     × (goal.iterator-loop-key g).is_finite l.key-iterator
-    × IsLoaded g.K.Ord.cmp (entries l.fn.self) l.yielded l.load
+    × (entries l.self ≡ extended g.K.Ord.cmp (entries l.fn.self) l.yielded)

@@ -1,19 +1,36 @@
-use Rattle.std.proofs.Common.{◌++◌, subst}
-use Rattle.std.proofs.lemmas.Result.{err_from_is_err_and}
-use Rattle.fc_base.specs.Extended.{IsExtendedUpTo}
-use Rattle.fc_map.specs.Entries.{entries}
+use Rattle.std.proofs.Common.{◌∷◌, ◌++◌, [], rules}
+use denote.Builtin.{unit}
+use denote.Param.{param}
+use Rattle.fc_vec.proofs.ItemFacts.{yields_more}
+use Rattle.fc_map.proofs.LoadFacts.{all_gathered, loaded_more, all_put, stopped_after, stopped_at, on_err}
+use Rattle.fc_map.proofs.BulkInsertSizes.{bulk_load_fits}
 use Rattle.fc_map.proofs.map.extend.BTreeMapTryFromIteratorTuple2.try_from_iterator.Goals as goal
 
-pub returns-in_err-try_extend-clause-error : goal.returns-in_err-try_extend-clause-error
-returns-in_err-try_extend-clause-error g c =
-    let refused = c.in_err-try_extend.ensures.error in
-    let p = err_from_is_err_and c.from_residual.result c.from_residual.ensures.1 in
-    rw (p.1, p.2) (
-      refused.0,
-      refused.1,
+pub loop-key-init : goal.loop-key-init
+loop-key-init g c = (
+  search rules,
+  search rules,
+  all_gathered g.K.Ord.cmp [] [] c.new-load.result c.new-load.ensures.placed c.new-load.ensures.gathered,
+)
+
+pub loop-key-preserved : goal.loop-key-preserved
+loop-key-preserved g c = (
+  search rules,
+  search rules,
+  loaded_more g.K.Ord.cmp [] c.loop-key.yielded c.loop-key.load c.loop-key.invariant.2 ((c.in-Some.key, c.in-Some.value) ∷ []) c.try_put.new.self
+      c.in-Ok.ensures.taken,
+)
+
+pub returns-in-Err-clause-error : goal.returns-in-Err-clause-error
+returns-in-Err-clause-error g c =
+    let item : g.row.K.Denot × g.row.V.Denot = (c.in-Some.key, c.in-Some.value) in
+    let taken = yields_more g.T.IntoIter.Iterator.next_gives c.into_iter-key-iterator.result c.loop-key.key-iterator c.next.new.self c.loop-key.yielded item
+    c.loop-key.yielded_by c.in-Some.ensures.steps in (
+      c.loop-key.yielded ++ item ∷ [],
+      (c.into_iter-key-iterator.result, c.into_iter-key-iterator.ensures.into_iter_gives, c.next.new.self, taken),
       (
-        entries c.try_extend.new.self,
-        λ rest. subst (λ s. IsExtendedUpTo g.K.Ord.cmp s (refused.0 ++ rest) (entries c.try_extend.new.self) c.in_err-try_extend.field-0.0) c.new-map.ensures
-            (refused.2 rest),
+        c.try_put.new.self.placed,
+        stopped_after g.K.Ord.cmp [] c.loop-key.yielded c.loop-key.load c.loop-key.invariant.2 item c.try_put.new.self.placed c.in-Err.error
+            c.in-Err.ensures.error,
       ),
     )

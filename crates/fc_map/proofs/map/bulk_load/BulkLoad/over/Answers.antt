@@ -1,6 +1,0 @@
-use denote.Param.{param}
-use Rattle.fc_map.proofs.BulkInsertSizes.{bulk_insert_fits}
-use Rattle.fc_map.proofs.map.bulk_load.BulkLoad.over.Goals as goal
-
-pub over-requires : goal.over-requires
-over-requires g c = bulk_insert_fits (param 0 g.row.K) (param 1 g.row.V) g.row.A g.K.Ord g.K.PartialEq g.K.PartialOrd g.A.Allocator g.met.A.Handle.small
