@@ -9,9 +9,7 @@ ghost use Rattle.fc_tree_build.specs.Built.{IsBehindLast};
 ghost use Rattle.fc_tree_build.specs.Spine.{IsLastPair, IsSpine};
 
 use crate::spares::try_inner_nodes;
-use crate::spine::{
-    Spine, attach, close, has_room, last_of, needed, put_in_room, put_pair,
-};
+use crate::spine::{Spine, attach, close, has_room, last_of, needed, put_in_room, put_pair};
 use fc_base::{Handle, TryReserveError};
 use fc_tree_drain::stack::Stack;
 use fc_tree_node::node::{CAPACITY, Node};

@@ -1,2 +1,1 @@
 use Rattle.fc_map.proofs.map.BTreeMap.put_next.Goals as goal
-

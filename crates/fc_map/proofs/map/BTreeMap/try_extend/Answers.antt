@@ -5,4 +5,3 @@ use Rattle.fc_vec.proofs.ItemFacts.{yields_more}
 use Rattle.fc_tree_merge.proofs.StableLaws.{extended_more}
 use Rattle.fc_map.proofs.ExtendFacts.{stopped_at_last}
 use Rattle.fc_map.proofs.map.BTreeMap.try_extend.Goals as goal
-

@@ -9,4 +9,3 @@ put_gathered-requires g c = bulk_insert_fits (param 0 g.row.K) (param 1 g.row.V)
 
 pub finish-requires : goal.finish-requires
 finish-requires g c = bulk_insert_fits (param 0 g.row.K) (param 1 g.row.V) g.row.A g.K.Ord g.K.PartialEq g.K.PartialOrd g.A.Allocator g.met.A.Handle.small
-
