@@ -8,9 +8,8 @@ at these sizes, by keys in ascending order and in one that jumps: what it replie
 texts of operations that are listed have up to ten million bytes. Interval maps and tables have 100,000 entries.
 
 Trees of which each node is full are split too. The program with a budget puts about 100,000 keys into a map and a set in just so many bytes as their nodes
-take, and in one byte less, where the last key alone is refused. A load of 70,000 keys in an order that jumps makes no more comparisons than one that sorts
-them, as insertions one by one do, nor many more requests than its nodes. It prints a line for each program and size, and last 'N passed, M failed'. It needs a C
-compiler."""
+take, and in one byte less, where the last key alone is refused. A load of 70,000 keys in an order that jumps makes no more requests and comparisons than one
+that sorts them, as insertions one by one do. It prints a line for each program and size, and last 'N passed, M failed'. It needs a C compiler."""
 import pathlib
 import subprocess
 import sys
@@ -295,13 +294,13 @@ LOADS = ("probe_map", f"make {LOADED} {JUMP}", ": "), ("probe_set", f"made 0..{L
 
 
 def counted(folder, program, load, sign):
-    """Whether a load makes no more comparisons than one that sorts its keys, and no more requests than one that fills its nodes.
+    """Whether a load makes no more requests and comparisons than one that sorts its keys.
 
     A merge sort compares a key once for each time that their number can be halved; then it may be compared with the one before it, and with one of a smaller
-    tree. A tree of full nodes makes the fewest requests; half as many more serve the lists of keys, and such a smaller tree."""
+    tree. A tree of full nodes makes the fewest requests; two fifths more serve the lists of keys, and such smaller trees."""
     ran = judge.Program(TOP / f"crates/{program}/out/{program}", folder).run(judge.Case([load.encode(), b"comparisons"]))
     compared = ran.replies[-1].split(sign)[-1] if ran.replies else ""
-    requests, comparisons = judge.requests_of_copy(LOADED)[0] * 3 // 2, LOADED * (LOADED.bit_length() + 2)
+    requests, comparisons = judge.requests_of_copy(LOADED)[0] * 7 // 5, LOADED * (LOADED.bit_length() + 2)
     is_done = (ran.replies, ran.status, ran.kept) == ([f"{load}{sign}done", f"comparisons{sign}{compared}"], 0, "0")
     is_right = is_done and ran.requests <= requests and int(compared) <= comparisons
     said = f"{ran.requests} requests of {requests}, {compared} comparisons of {comparisons}"
