@@ -17,6 +17,7 @@ odd one they are fewer, and each other of these runs has requests refused too. W
 It takes SECONDS. With --runs it goes on until there were N runs, and fails where a kind of line did not occur in them with each of its effects (of `remove`: the
 key is there, or not; a kind that may be refused: also that), or on a tree of some number of levels, or where no tree of three or of four levels lost most of its
 keys in each order. --tally prints how often each did. It takes all cores, or --jobs of them. --program has another program run than the one that tools/build.py built.
+No tree has more than four levels: a refusal on larger ones alone is seen by tools/large.py.
 
 Where a reply or an ending differs, lines are dropped for as long as it still differs, in at most 60 seconds, and it prints the run's seed, the lines that are
 left, which can be sent to ./fcrun, the requests that are refused with them, what was wanted and what was told (of long texts the front). The last line is 'N passed, M failed', and the

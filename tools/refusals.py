@@ -13,8 +13,8 @@ The program with a budget runs each case of one key or of two, and each of a who
 by reasoning where the nodes are full, and is looked for else: in so many bytes nothing is refused, in one less the command is, or what fills before it. Where a request
 is refused in a budget that suffices just so, the command is refused, and done where it comes once more: what it had taken was given back.
 
-Trees are also looked at from outside: after a command on a whole map or set, and after `retain` and `extract_if` in the probe of the map, a copy makes no fewer and no more
-requests than that of a sound tree of so many pairs can. It prints a line for each case, and last 'N passed, M failed'. It needs a C compiler."""
+Trees are also looked at from outside: a command on a whole map or set is done where no request is refused, and after it, and after `retain` and `extract_if` in the probe of
+the map, a copy makes no fewer and no more requests than that of a sound tree of so many pairs can. It prints a line for each case, and last 'N passed, M failed'. It needs a C compiler."""
 import argparse
 import concurrent.futures
 import os
@@ -294,9 +294,10 @@ def wrong_shapes(work):
     names = [""] if word in ("retain", "extract") else [" s", " t"] if lines[0].split(" ")[1] in "st" else [" a", " b"]
     made = f"  {lines[-1][:60]} after {len(lines) - 1} lines"
     lines = [line.encode() for line in lines + [f"len{name}" for name in names]]
-    ran, wrong = program.run(Case(lines)), []
+    ran = program.run(Case(lines))
     if ran.status != 0:
         return word, [f"{made}: {judge.ending(ran.status, ran.error)}"]
+    wrong = [f"{made}: line {at + 1} was refused, and no request was" for at in refused_at(ran)]
     for name, reply in zip(names, ran.replies[-len(names) :]):
         copied = program.run(Case([*lines, f"copy{name}".encode()]))
         fault = judge.fault_of_copy(len(lines), int(reply.split(" ")[-1]), copied.requests - ran.requests)
