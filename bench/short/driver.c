@@ -1,4 +1,4 @@
-/* Runs the phases of `src/lib.rt` over so many pairs. `malloc` refuses the request by which a phase ends, and calls `mark`, where callgrind notes what it
+/* Runs the phases of `src/lib.rs` over so many pairs. `malloc` refuses the request by which a phase ends, and calls `mark`, where callgrind notes what it
  * counted. A job's first request of that kind comes when its collection is made, which is not counted. */
 #include <stdbool.h>
 #include <stdint.h>

@@ -1,5 +1,5 @@
-//! Calls that take little time each, over one collection of so many pairs: what `bench/short.py` counts. It is built unproved and proves nothing, so it stands
-//! outside of `crates`. Each exported function makes one collection and its phases, in the order in which that tool names them.
+//! Calls that take little time each, over one collection of so many pairs: what `bench/short.py` counts. This is Rattle, built by that tool and not proved, so
+//! that its files have no name of a crate's. Each exported function makes one collection and its phases, in the order in which the tool names them.
 #![tactic(auto)]
 
 mod caches;
