@@ -29,6 +29,8 @@ WITHIN, BESIDE = 0.03, 2
 CONSTANT, LEVELS, HALVINGS, SPLITS = 1, 5 / 3, 5 / 3, 5
 # What is met by chance.
 SLACK, SLACK_BESIDE = 1.25, 10
+# Calls that each walk over everything take minutes, and right ones some seconds.
+LIMIT = 900
 # By what a figure is divided, among so many pairs: the calls of bench/short/src, all pairs, or nothing.
 SHARES = {
     "call": lambda pairs: min(pairs, 1_000),
@@ -139,8 +141,13 @@ def rows_of(job):
 
 def counted(process, out, pairs):
     """The instructions of each row, by its name, of one process. A job begins with what was made before, which counts nowhere."""
-    if process.wait() != 0:
-        sys.exit(f"bench/short.py: the calls over {pairs} pairs failed")
+    try:
+        status = process.wait(LIMIT)
+    except subprocess.TimeoutExpired:
+        process.kill()
+        status = f"no end in {LIMIT} seconds"
+    if status != 0:
+        sys.exit(f"bench/short.py: the calls over {pairs} pairs failed: {status}")
     totals = iter(int(number) for number in re.findall(r"(?m)^totals: (\d+)$", out.read_text()))
     found = {}
     for job in JOBS:
