@@ -63,6 +63,7 @@ pub(crate) fn tell(world: World<'_>, row: &Row) -> Answer {
         3 => Answer::Number(world.counts.left.get()),
         4 => lives_in(world, stretch_in(row, 0)),
         5 => forget(world),
+        6 => whether(world.counts.comparisons.get() <= row.number(0)),
         _ => UNKNOWN,
     }
 }
