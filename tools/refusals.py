@@ -300,9 +300,10 @@ def wrong_load(program, load, lines, refused):
     """What is wrong in a run of a load with requests refused, or None; and whether it was told as refused."""
     ran = program.run(Case(lines, **refused))
     told = ran.replies[1] == f"{load.row}: no memory" if len(ran.replies) > 1 else None
-    there = [" WRONG", " right"] if told else [" right", " WRONG"]
+    is_refused = told or load.is_whole
+    there = [" WRONG", " right"] if is_refused else [" right", " WRONG"]
     shown = [f"holds {some}:{is_there}" for some, is_there in zip((load.behind, load.before), there)]
-    wanted = [f"{load.row}: {'no memory' if told or load.is_whole else 'done'}", *shown]
+    wanted = [f"{load.row}: {'no memory' if is_refused else 'done'}", *shown]
     is_well = ran.replies[1:] == wanted and (ran.status, ran.kept) == (0, "0")
     told_all = f"told {ran.replies[1:]}, with status {ran.status} and {ran.kept} blocks not given back"
     return None if is_well else f"  {refused}: wanted {wanted}, {told_all}", told
