@@ -34,11 +34,10 @@ fn seen(cache: &mut Boxes, alloc: Global) -> Result<[usize; 5], TryReserveError>
 #[test]
 fn what_is_evicted_replaced_or_taken_out_is_given_up(rt: HostRuntime) {
     let mut cache: Boxes = Cache::new(rt.alloc(), 3);
-    let Ok([evicted, replaced, over, all, last]) = seen(&mut cache, rt.alloc()) else {
+    let Ok(seen) = seen(&mut cache, rt.alloc()) else {
         return;
     };
-    assert!(rt; evicted == 3 && replaced == 3 && over == 3 && all == 1 && last == 3);
-    assert!(rt; cache.len() == 1);
+    assert!(rt; seen == [3, 3, 3, 1, 3] && cache.len() == 1);
 }
 
 // Numbers, each put in with the cost 1 beside all before it.
