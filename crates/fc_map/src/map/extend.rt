@@ -126,6 +126,9 @@ impl<K: Ord + Drop, V: Drop> TryFromIterator<(K, V)> for BTreeMap<K, V> {
                 Err(error) => return Err(error),
             }
         }
-        load.finish()
+        match load.flush() {
+            Ok(()) => Ok(load.finish()),
+            Err(error) => Err(error),
+        }
     }
 }
