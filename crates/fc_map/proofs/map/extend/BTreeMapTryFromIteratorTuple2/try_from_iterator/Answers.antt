@@ -1,9 +1,6 @@
-use Rattle.std.proofs.Common.{◌∷◌, ◌++◌, [], rules}
-use denote.Builtin.{unit}
-use denote.Param.{param}
+use Rattle.std.proofs.Common.{◌∷◌, ◌++◌, [], rules, ◌∙◌}
 use Rattle.fc_vec.proofs.ItemFacts.{yields_more}
-use Rattle.fc_map.proofs.LoadFacts.{all_gathered, loaded_more, all_put, stopped_after, stopped_at, on_err}
-use Rattle.fc_map.proofs.BulkInsertSizes.{bulk_load_fits}
+use Rattle.fc_map.proofs.LoadFacts.{all_gathered, loaded_more, all_put, stopped_after, stopped_at}
 use Rattle.fc_map.proofs.map.extend.BTreeMapTryFromIteratorTuple2.try_from_iterator.Goals as goal
 
 pub loop-key-init : goal.loop-key-init
@@ -36,7 +33,23 @@ returns-in-Err-clause-error g c =
     )
 
 pub returns-in-Ok-flush-clause-made : goal.returns-in-Ok-flush-clause-made
-returns-in-Ok-flush-clause-made g c = ?
+returns-in-Ok-flush-clause-made g c = (
+  c.loop-key.yielded,
+  (
+    c.into_iter-key-iterator.result,
+    c.into_iter-key-iterator.ensures.into_iter_gives,
+    (c.next.new.self, (c.loop-key.key-iterator, c.loop-key.yielded_by, c.in-None.ensures.steps)),
+  ),
+  all_put g.K.Ord.cmp [] c.loop-key.yielded c.loop-key.load c.loop-key.invariant.2 _ (c.finish.ensures.pairs ∙ c.in-Ok-flush.ensures.all),
+)
 
 pub returns-in-Err-flush-clause-error : goal.returns-in-Err-flush-clause-error
-returns-in-Err-flush-clause-error g c = ?
+returns-in-Err-flush-clause-error g c = (
+  c.loop-key.yielded,
+  (c.into_iter-key-iterator.result, c.into_iter-key-iterator.ensures.into_iter_gives, c.loop-key.key-iterator, c.loop-key.yielded_by),
+  (
+    c.flush.new.self.placed,
+    λ rest. stopped_at g.K.Ord.cmp [] c.loop-key.yielded c.loop-key.load c.loop-key.invariant.2 rest c.flush.new.self.placed c.in-Err-flush.error
+        (c.in-Err-flush.ensures.error rest),
+  ),
+)
