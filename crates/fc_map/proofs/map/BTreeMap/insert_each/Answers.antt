@@ -1,24 +1,15 @@
-use Rattle.std.proofs.Common.{◌≡◌, ◌∷◌, ◌++◌, [], ℕ, ◌+◌, ◌≤◌, length, ap, ◌∙◌, arith, Option, Some, None}
+use Rattle.std.proofs.Common.{◌≡◌, List, ◌∷◌, ℕ, ◌+◌, ◌≤◌, length, ap, ◌∙◌, arith, Option, Some, None}
 use Rattle.std.specs.Prelude.{MatchOption}
-use Rattle.std.specs.Vec.Iter.{into_iter_items}
-use Rattle.fc_base.specs.Extended.{extended}
 use Rattle.fc_map.specs.Entries.{entries}
 use Rattle.fc_tree_merge.proofs.MergedFacts.{moved_on}
 use Rattle.fc_tree_merge.proofs.StableLaws.{extended_more}
-use Rattle.fc_map.proofs.map.BTreeMap.insert_each.Given as given
 use Rattle.fc_map.proofs.map.BTreeMap.insert_each.Goals as goal
 
--- at most one place is used up
-at_most_one : {V : Type 0} (r : Option V) (new old : ℕ) → MatchOption r (new + 1 ≡ old) (λ _. new ≡ old) → old ≤ new + 1
-at_most_one None new old h = omega arith
-at_most_one (Some v) new old h = omega arith
-
-left_places : (g : given.Over) (c : goal.After-insert_reserved-old g) → length (into_iter_items c.next.new.self) ≤ c.insert_reserved-old.new.reservation.places
-left_places g c =
-    let one = at_most_one c.insert_reserved-old.result _ _ c.insert_reserved-old.ensures.places in
-    let before = c.loop-key.invariant.places in
-    let next = ap length c.in-Some.ensures.steps.0 in
-    omega arith
+-- each item that is left has a place: at most one is used up
+left_places : {V X : Type 0} (r : Option V) (new old : ℕ) (x : X) (left rest : List X) → MatchOption r (new + 1 ≡ old) (λ _. new ≡ old) → length left ≤ old
+    → left ≡ x ∷ rest → length rest ≤ new
+left_places None new old x left rest used fits next = let e = ap length next in omega arith
+left_places (Some v) new old x left rest used fits next = let e = ap length next in omega arith
 
 pub loop-key-preserved : goal.loop-key-preserved
 loop-key-preserved g c =
@@ -29,7 +20,7 @@ loop-key-preserved g c =
       made = extended_more g.K.Ord.cmp (entries c.args.self.now) c.loop-key.yielded (entries c.loop-key.self) _ c.in-Some.key c.in-Some.value done.made put.put;
       pairs = put.pairs ∙ done.pairs;
       total = put.total ∙ done.total;
-      places = left_places g (goal.at.loop-key-preserved g c).After-insert_reserved-old;
+      places = left_places c.insert_reserved-old.result _ _ (c.in-Some.key, c.in-Some.value) _ _ put.places done.places c.in-Some.ensures.steps.0;
     }
 
 pub loop-key-preserved-in-Some : goal.loop-key-preserved-in-Some
@@ -41,5 +32,5 @@ loop-key-preserved-in-Some g c =
       made = extended_more g.K.Ord.cmp (entries c.args.self.now) c.loop-key.yielded (entries c.loop-key.self) _ c.in-Some.key c.in-Some.value done.made put.put;
       pairs = put.pairs ∙ done.pairs;
       total = put.total ∙ done.total;
-      places = left_places g (goal.at.loop-key-preserved-in-Some g c).After-insert_reserved-old;
+      places = left_places c.insert_reserved-old.result _ _ (c.in-Some.key, c.in-Some.value) _ _ put.places done.places c.in-Some.ensures.steps.0;
     }
