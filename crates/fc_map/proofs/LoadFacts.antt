@@ -11,15 +11,6 @@ use Rattle.fc_tree_merge.proofs.StableLaws.{extended_more}
 use Rattle.fc_map.specs.BulkLoad.{Loading, IsLoaded}
 use Rattle.fc_map.proofs.ExtendFacts.{up_to}
 
--- What a call's answer tells, told otherwise.
-pub on_ok : {X E P Q : Type 0} (r : Result X E) → (P → Q) → OnOk r P → OnOk r Q
-on_ok (Ok x) f p = f p
-on_ok (Err e) f p = p
-
-pub on_err : {X E : Type 0} (P Q : E → Type 0) (r : Result X E) → ((e : E) → P e → Q e) → IfErr r P → IfErr r Q
-on_err P Q (Ok x) f p = p
-on_err P Q (Err e) f p = f e p
-
 module _ {K V : Type 0} (cmp : K → K → Ordering) where
   extended_both : (s front back : List (K × V)) → extended cmp (extended cmp s front) back ≡ extended cmp s (front ++ back)
   extended_both s [] back = refl

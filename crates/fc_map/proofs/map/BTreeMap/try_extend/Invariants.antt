@@ -1,5 +1,4 @@
 use Rattle.std.proofs.Common.{◌≡◌}
-use Rattle.fc_base.specs.Ascending.{IsAscending}
 use Rattle.fc_base.specs.Extended.{extended}
 use Rattle.fc_map.specs.Entries.{entries}
 use Rattle.fc_map.proofs.map.BTreeMap.try_extend.Given as goal

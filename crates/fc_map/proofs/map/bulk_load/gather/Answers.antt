@@ -1,6 +1,7 @@
 use Rattle.std.proofs.Common.{◌∷◌, [], ◌++◌, refl, ap, ◌∙◌}
+use Rattle.std.proofs.lemmas.Result.{on_ok_weaker}
 use Rattle.fc_base.specs.Extended.{extended}
-use Rattle.fc_map.proofs.LoadFacts.{all_loaded, all_gathered, one_if_ok, one_if_err, refused_before, refused_over, on_ok}
+use Rattle.fc_map.proofs.LoadFacts.{all_loaded, all_gathered, one_if_ok, one_if_err, refused_before, refused_over}
 use Rattle.fc_map.proofs.map.bulk_load.gather.Goals as goal
 
 pub returns-in-Ok-put_gathered-clause-taken : goal.returns-in-Ok-put_gathered-clause-taken
@@ -29,7 +30,7 @@ returns-then-len-lt-FEWEST-clause-taken g c =
 pub returns-clause-taken : goal.returns-clause-taken
 returns-clause-taken g c =
     let items = c.args.gathered.now.items ++ c.args.item ∷ [] in
-    on_ok c.put_gathered-2.result (λ is. all_loaded g.K.Ord.cmp c.args.placed.now items
+    on_ok_weaker c.put_gathered-2.result (λ is. all_loaded g.K.Ord.cmp c.args.placed.now items
     (record { placed = c.put_gathered-2.new.placed; gathered = c.put_gathered-2.new.gathered.items }) c.put_gathered-2.ensures.none
     (is ∙ ap (extended g.K.Ord.cmp c.args.placed.now) c.in-Ok.ensures.items)) c.put_gathered-2.ensures.all
 

@@ -1,8 +1,5 @@
 use Rattle.std.proofs.Common.{◌∷◌, ◌++◌, [], rules, refl}
-use denote.Builtin.{unit}
-use denote.Param.{param}
 use Rattle.fc_vec.proofs.ItemFacts.{yields_more}
-use Rattle.fc_map.proofs.BulkInsertSizes.{bulk_load_fits}
 use Rattle.fc_map.proofs.LoadFacts.{all_gathered, loaded_more, stopped_after}
 use Rattle.fc_set.proofs.ItemFacts.{keys}
 use Rattle.fc_set.proofs.ExtendFacts.{keys_more, items_up_to, paired}

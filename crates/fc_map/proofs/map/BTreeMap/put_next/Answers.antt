@@ -1,1 +1,0 @@
-use Rattle.fc_map.proofs.map.BTreeMap.put_next.Goals as goal
