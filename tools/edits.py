@@ -2,7 +2,8 @@
 """Wrong bodies that have no proof: crates/NAME/edits/*.edit, each of which the prover was seen to refuse, as the record tools/tried/NAME has it.
 
   tools/edits.py                 (the gate) looks that every edit, of must-fail/ too, can still be applied, that each record holds the crate's edits
-                              as they are, in the bodies as they are, over the clauses as they are, and that each long function and each call of users has an edit
+                              as they are, in the bodies as they are, over the clauses as they are, that few wait, and that each long function and each call
+                              of users has an edit
   tools/edits.py NAME..          tries the edits of these crates that their records do not hold, which are all once a clause changed, and writes the records
   tools/edits.py --anew NAME..   tries all edits of these crates;  --all: of every crate
   --by LOG NAME..             tries them by rt check --only of the functions that they change, which by LOG, of rt ci or rt check, were proved as they are:
@@ -26,8 +27,8 @@ Of each edit it holds a checksum of its text, one of the functions that it chang
 goal at which it was refused. A line is 'refused EDIT TEXT FUNCTIONS FUNCTION GOAL' or 'stated CRATE ITEM', sorted.
 No line says over which of the items its edit was tried: where two branches tried edits of a crate, each over clauses of its own, a merge of both records would
 say more than was tried. One branch's record is taken then, and tools/edits.py NAME tries what the other changed.
-WAITING beside the edits names edits that nobody has tried over the clauses as they are: the gate lets these wait, and tools/edits.py NAME tries them, and takes
-out of WAITING those that were refused.
+WAITING beside the edits names edits that nobody has tried over the clauses as they are: the gate lets MOST_WAITING of all these wait, and tools/edits.py NAME
+tries them, and takes out of WAITING those that were refused.
 """
 import hashlib
 import os
@@ -54,6 +55,8 @@ MARK = re.compile(TEXTS + r"|[][(){};]|" + CLAUSE, re.S)
 IN_CLAUSE = re.compile(r'"(?:\\.|[^"\\])*"|[{};]')
 # The most edits of one check, whose room for terms a larger number filled.
 MOST = 16
+# The most edits that may wait for their trial, in all crates: a change tries its own before it is done.
+MOST_WAITING = 25
 # Each longer function of the library has a wrong body, but for these.
 SHORT = 10
 EXCUSED = {
@@ -778,6 +781,13 @@ def not_called_wrongly(crate):
     return bare
 
 
+def not_ended(every):
+    """That more edits wait for their trial than may, if so."""
+    waits = {it.name: len(it.waiting()) for it in every if it.waiting()}
+    told = f"{sum(waits.values())} wrong bodies wait for their trial, and {MOST_WAITING} may: run tools/edits.py {' '.join(waits)}"
+    return [told] * (sum(waits.values()) > MOST_WAITING)
+
+
 def listed(names):
     return ", ".join(names[:4]) + f" and {len(names) - 4} more" * (len(names) > 4)
 
@@ -810,6 +820,7 @@ def main(words):
     wrong += [it for crate in every if not names or crate in chosen for it in not_tried(crate)]
     wrong += [f"tools/tried/{it.name} is the record of no crate" for it in sorted(RECORDS.iterdir()) if it.name not in Crate.known]
     wrong += [it for crate in every if not names for it in (*not_covered(crate), *not_called_wrongly(crate))]
+    wrong += [] if names else not_ended(every)
     for it in wrong:
         print(f"edits: {it}", file=sys.stderr)
     return 1 if wrong else 0

@@ -6,8 +6,8 @@
 Each run draws its lines from a seed of its own: SEED (else the time), SEED + 1, and so on, so that a run is had again by its seed. At an even seed
 memory is ample, and each reply has to be the one that the lists give. At an odd seed requests for memory are refused, of which the run draws the numbers.
 A refusal that is told then has to be one that docs/COMMANDS.md and docs/PROMISES.md allow of that command in that state, and the replies after it have to
-be those of lists which it left as these pages say; as many refusals are told as there were requests refused, but for what an extension gathers; and
-`no memory` ends the run only where the first page says so. Some runs have a line that is not a command, after which nothing is run. Each block of memory is given back. Where memory is ample, the last
+be those of lists which it left as these pages say; as many refusals are told as there were requests refused; and `no memory` ends the run only where the
+first page says so. Some runs have a line that is not a command, after which nothing is run. Each block of memory is given back. Where memory is ample, the last
 copies of a run make no fewer and no more requests than those of sound trees of so many pairs can. Each fourth run fills a map or a set with thin nodes and takes
 most of its keys out, in each order in turn, with look-ups and lists of all that is left between.
 
@@ -17,6 +17,7 @@ odd one they are fewer, and each other of these runs has requests refused too. W
 It takes SECONDS. With --runs it goes on until there were N runs, and fails where a kind of line did not occur in them with each of its effects (of `remove`: the
 key is there, or not; a kind that may be refused: also that), or on a tree of some number of levels, or where no tree of three or of four levels lost most of its
 keys in each order. --tally prints how often each did. It takes all cores, or --jobs of them. --program has another program run than the one that tools/build.py built.
+No tree has more than four levels: a refusal on larger ones alone is seen by tools/large.py.
 
 Where a reply or an ending differs, lines are dropped for as long as it still differs, in at most 60 seconds, and it prints the run's seed, the lines that are
 left, which can be sent to ./fcrun, the requests that are refused with them, what was wanted and what was told (of long texts the front). The last line is 'N passed, M failed', and the

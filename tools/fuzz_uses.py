@@ -12,7 +12,7 @@ back. Where the first request is refused, the program ends.
 
 It takes SECONDS. With --runs it goes on until there were N runs, and fails where a line did not occur with each of its effects, or not on each number of entries:
 none, up to 15, up to 255, or more, which are trees of no, one, two and three levels. --tally prints how often each did. --program has another program run in the
-place of the one that --only names and `rt ci` built.
+place of the one that --only names and `rt ci` built. A refusal above some hundreds of entries alone is seen by tools/large.py, in intervals and tables.
 
 Where a reply or an ending differs, lines are dropped for as long as it still differs, and it prints the run's seed, the requests that are refused, the lines
 that are left, what was wanted and what was told. The last line is 'N passed, M failed', and the status is 0 where M is 0. It needs a C compiler."""

@@ -19,7 +19,6 @@ top = pathlib.Path(__file__).resolve().parent.parent
 GREATEST = 2**64 - 1  # the greatest number
 LONGEST = 4096  # the most bytes of a line
 CAPACITY = 15  # the most pairs of a node: with as many, a map may need a node for a new key
-SINGLE = 256  # so many items of an extension that come out of order go in one by one, and those after them are gathered
 LEAST = 7  # the fewest pairs of a node that is not the root
 STARTS = 3  # how many requests for memory the program makes at its start
 ARGUMENTS = 4  # how many more, ahead of these, where it reads its one argument, the bytes of its budget
@@ -395,11 +394,6 @@ def made_of(name, n):
     return most_of(name, n) + way_of(name, n) + (leaves + above + levels + 1) * NODE
 
 
-def gathered_of(name, n, more):
-    """The most that so many items of an extension take where they are gathered: a list of twice as many, room to sort them, and all nodes of the new tree."""
-    return 0 if more <= SINGLE else 3 * more * (ITEM if name > 1 else PAIR) + made_of(name, n + more)
-
-
 def least_held(world):
     return sum(least_of(name, len(pairs)) for name, pairs in enumerate(world))
 
@@ -416,7 +410,7 @@ TAKES = {
     "both": lambda name, m, o, k, v, j, w: way_of(name, m) + way_of(name, o),
     "add": lambda name, m, o, k: way_of(name, m),
     "replace": lambda name, m, o, k: way_of(name, m),
-    "extend": lambda name, m, o, more: most_of(name, m + len(more)) - most_of(name, m) + one_more(name, m + len(more)) + gathered_of(name, m, len(more)),
+    "extend": lambda name, m, o, more: most_of(name, m + len(more)) - most_of(name, m) + way_of(name, m + len(more)),
     "append": lambda name, m, o: made_of(name, m + o),
     "split": lambda name, m, o, k: one_more(name, m),
     "copy": lambda name, m, o: made_of(name, m),
@@ -463,11 +457,11 @@ def refused(world, command):
 
 def refused_within(world, command, budget):
     """The same, where only a budget of so many bytes refuses: it does where what stands and what the command takes may pass it. An extension is refused at a pair,
-    so by what stands then and the nodes for that pair."""
+    so by what stands then and the nodes for that pair, as an insertion."""
     if command.word != "extend":
         return refused(world, command) if most_taken(world, command) > budget else []
     name = command.names[0]
-    return [left for left in refused(world, command) if most_held(left) + one_more(name, len(left[name])) > budget]
+    return [left for left in refused(world, command) if most_held(left) + way_of(name, len(left[name])) > budget]
 
 
 # How a tree looks from outside.
@@ -558,21 +552,13 @@ def ending(status, error):
     return f"an end with status {status}" + (f" and '{error.strip()}' on standard error" if error else "")
 
 
-def may_gather(line):
-    """Whether a line extends by more items than go in one by one: requests for what is gathered of them may be refused, and are not told."""
-    word, *names = line.split(b" ")
-    return word == b"extend" and (len(names) - 1) // (2 if names[:1] in ([b"a"], [b"b"]) else 1) > SINGLE
-
-
 def fault_of_end(case, ran, lines, refusals, status):
-    """What is wrong with the end after so many lines, where it has to have this status, or None. A budget refuses besides, and each refused request is told, but
-    for those of what an extension gathers."""
+    """What is wrong with the end after so many lines, where it has to have this status, or None. A budget refuses besides, and each refused request is told."""
     error = "no memory\n" if status == 2 else ""
     at = max(0, lines - 1)
     if (len(ran.replies), ran.status, ran.error) != (lines, status, error):
         return Fault(at, f"{ending(status, error)} behind reply {lines}", f"{ending(ran.status, ran.error)} behind reply {len(ran.replies)}")
-    untold = status == 2 or any(map(may_gather, case.lines[:lines]))
-    if refusals > ran.refusals and case.budget is None or refusals < ran.refusals and not untold:
+    if refusals > ran.refusals and case.budget is None or refusals < ran.refusals and status != 2:
         return Fault(at, f"as many refusals as requests were refused, {ran.refusals}", f"{refusals}")
     return None if ran.kept == "0" else Fault(at, "each block given back", f"{ran.kept} not given back")
 

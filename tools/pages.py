@@ -13,10 +13,11 @@ A quotation is a block of code behind one of these lines in a Markdown file:
   <!-- literal: FILE NAME.. -->    the texts of constants
   <!-- lines: FILE FIRST LAST -->  lines of a file, as of a program's stdin, or of the stdout that `rt ci` compares with what it prints
   <!-- file: FILE -->              a whole file
-A number ahead of '<!-- NAME -->' is one that `numbers` below counts. Between '<!-- calls -->' and '<!-- end of calls -->' stands a table of the page's calls by the comments at them, between the same of 'words' each word of its contracts that
+A number, or a commit, ahead of '<!-- NAME -->' is one that `numbers` below tells. Between '<!-- calls -->' and '<!-- end of calls -->' stands a table of the page's calls by the comments at them, between the same of 'words' each word of its contracts that
 fallible_collections.specs.Words does not hand on, of 'stands' the crates below and above, of 'costs' what the proofs of the examples are, of 'crates' what
-the README of each crate of the library says first, of 'promises' what it says is proved, only tested or neither, of 'std' what stands for calls of std's collections, by tools/std.txt.
-docs/GALLERY.md leads to each example, whose READMEs have the same headings. A file's path starts at the top of the repository. An indented line of crates.txt is as it stands there. Paths that pages name or lead to are there. Rust stands on a page as a quotation, and the paragraph above
+the README of each crate of the library says first, of 'promises' what it says is proved, only tested or neither, of 'by hand' which functions have a proof written by hand, of 'std' what stands for calls of std's collections, by tools/std.txt.
+docs/GALLERY.md leads to each example, whose READMEs have the same headings. A file's path starts at the top of the repository. An indented line of crates.txt is as it stands there. Paths that pages name or lead to are there,
+those in plain blocks of code too. The entries of docs/DECISIONS.md and docs/DIFFERENCES.md are those that tools/told.txt lists, which no option writes: so none goes unnoticed. Rust stands on a page as a quotation, and the paragraph above
 an excerpt leads to the page, or the source, that has the whole; tools/pasted.py proves what is whole as it stands. And it looks that what docs/PROMISES.md names behind each wrong body, and behind each call that takes
 memory, is there: an edit CRATE/edits/NAME or CRATE/must-fail/NAME, a test CRATE::NAME, a file lines/NAME or tools/NAME, or a text 'CRATE/FILE: TEXT'; and
 that it lists just those calls that take memory which are public: functions of the crates that `fallible_collections` hands on, and of those beside it, whose
@@ -339,6 +340,24 @@ def costs(_):
 
 
 @functools.cache
+def proved_by_hand():
+    """The functions that have a proof written by hand: crate, module and name of each."""
+    found = [it.relative_to(top / "crates").parts for it in top.glob("crates/fc_*/proofs/**/Proof.antt")]
+    return {(it[0], it[2], it[-2]) for it in found if it[-2] != "TheLaw"}
+
+
+def by_hand(_):
+    """The functions that have a proof written by hand, file by file."""
+    rows = ["| File | Proved by hand |", "|---|---|"]
+    for file in sorted(top.glob("crates/fc_*/src/**/*.rt")):
+        crate, _, module, *_ = file.with_suffix("").relative_to(top / "crates").parts
+        named = re.findall(r"(?m)^ *(?:pub |pub\(crate\) )?(?:unsafe )?fn (\w+)", file.read_text())
+        names = [f"`{it}`" for it in named if (crate, module, it) in proved_by_hand()]
+        rows += [f"| `{file.relative_to(top / 'crates')}` | {', '.join(names)} |"] * bool(names)
+    return "\n".join(rows)
+
+
+@functools.cache
 def words_handed_on():
     """The words of fallible_collections.specs.Words, and where each word of the library's definitions stands."""
     handed = re.findall(r"(?m)^pub use .*\{([^}]*)\}", (top / "crates/fallible_collections/specs/Words.antt").read_text())
@@ -383,6 +402,13 @@ def excerpts(file, text):
             wrong.append(f"{file.relative_to(top)}: the paragraph above the excerpt {found[2]} leads to no page that has it whole, and not to {found[1]}")
 
 
+def paths_in_blocks(text):
+    """The paths in a page's plain blocks of code, but for those of a user's own crate."""
+    plain_blocks = "\n".join(re.findall(r"(?ms)^```(?:text|sh)?\n.*?^```$", text) + re.findall(r"(?m)^    .*$", text))
+    found = re.findall(r"(?<![\w./-])(?:docs|tools|bench|crates|lines|examples)/\w[\w./-]*", plain_blocks)
+    return [it for it in found if not it.startswith("crates/my_")]
+
+
 def page(file):
     text = file.read_text()
 
@@ -393,7 +419,7 @@ def page(file):
         return new
 
     def table(found):
-        made = {"calls": calls_of_page, "words": words_of_page, "costs": costs, "crates": crates, "std": from_std, "promises": promises, "stands": functools.partial(stands, file.parent.name)}[found[2]]
+        made = {"calls": calls_of_page, "words": words_of_page, "costs": costs, "crates": crates, "std": from_std, "promises": promises, "by hand": by_hand, "stands": functools.partial(stands, file.parent.name)}[found[2]]
         new = f"{found[1]}{made(kept)}\n{found[3]}"
         if new != found[0]:
             wrong.append(f"{file.relative_to(top)}: its table of {found[2]} is not that of the sources")
@@ -407,6 +433,9 @@ def page(file):
     for named in re.findall(r"`((?:docs|tools|bench|crates|lines|examples)/\w[\w./-]*)", text):
         if "NAME" not in named and ".." not in named and not (top / named).exists() and not [*top.glob(named + "*")]:
             wrong.append(f"{file.relative_to(top)} names {named}, which is not there")
+    for named in paths_in_blocks(text):
+        if not (top / named).exists():
+            wrong.append(f"{file.relative_to(top)} has {named} in a block of code, which is not there")
     excerpts(file, text)
     kept = re.sub(r"(?sm)(<!-- (code|body|proved|caller|imports|contracts|counted|clauses|literal|lines|file): ([^\n]+?) -->\n```\w*\n).*?^```$", block, text)
     def number(found):
@@ -415,7 +444,7 @@ def page(file):
             wrong.append(f"{file.relative_to(top)}: it has {found[1]} for the number '{found[2]}', which is {numbers()[found[2]]}")
         return new
 
-    kept = re.sub(r"([\d.,]*\d)<!-- ([a-z][a-z ]*) -->", number, kept)
+    kept = re.sub(r"([\w.,]*\w)<!-- ([a-z][a-z ]*) -->", number, kept)
     def taken(found):
         new = f"| `{found[1]}` | {len(taken_with(found[1]))} |{found[3]}"
         if new != found[0]:
@@ -428,7 +457,7 @@ def page(file):
             wrong.append(f"{file.relative_to(top)}: the line of {crate} is not that of crates.txt")
     if file.name == "USING.md":
         kept = re.sub(r"(?m)^\| `(fc_\w+|fallible_collections)` \| (\d+) \|(.* \| [\d.]+ \|)$", taken, kept)
-    kept = re.sub(r"(?sm)(<!-- (calls|words|costs|crates|promises|std|stands) -->\n).*?(<!-- end of \2 -->)$", table, kept)
+    kept = re.sub(r"(?sm)(<!-- (calls|words|costs|crates|promises|std|stands|by hand) -->\n).*?(<!-- end of \2 -->)$", table, kept)
     if "--write" in sys.argv and kept != text:
         file.write_text(kept)
 
@@ -445,7 +474,7 @@ def numbers():
         for name in ("insert", "get", "remove"):
             ours, stds = re.search(rf"(?m)^  {name} +([\d.]+) +/ ([\d.]+) ", rows).groups()
             figures |= {f"own {name}": ours} if whose == "own" else {f"our {name}": ours, f"std {name}": stds}
-    kit, cores, minutes, processor = re.search(r"(?m)^\| \w+ \| (\S+) \| (\d+) \| (\d+) \| (\d+) \|", (top / "docs/GATE.md").read_text()).groups()
+    commit, _, cores, minutes, processor = re.findall(r"(?m)^\| (\w+) \| (\S+) \| (\d+) \| (\d+) \| (\d+) \|", (top / "docs/GATE.md").read_text())[-1]
     return figures | {
         "crates": len(crates),
         "crates of the library": sum(it.startswith("fc_") for it in crates),
@@ -454,11 +483,14 @@ def numbers():
         "wrong bodies on demand": len(edits("edits")),
         "wrong bodies": len(edits("must-fail")) + len(edits("edits")),
         "waiting": waiting,
+        "may wait": re.search(r"(?m)^MOST_WAITING = (\d+)$", (top / "tools/edits.py").read_text())[1],
         "tried": len(edits("edits")) - waiting,
+        "commit": commit,
         "cores": cores,
         "minutes": minutes,
         "processor minutes": processor,
-        "functions proved by hand": len([it for it in top.glob("crates/fc_*/proofs/**/Proof.antt") if it.parent.name != "TheLaw"]),
+        "functions proved by hand": len(proved_by_hand()),
+        "functions over raw memory": sum(crate == "fc_tree_slots" for crate, *_ in proved_by_hand()),
         "tests": sum(len(re.findall(r"#\[test\]", it.read_text())) for it in top.glob("crates/*/src/**/*.rt")),
         "definitions": len([it for it in top.glob("crates/fc_*/specs/*.antt") if it.name not in ("Lib.antt", "formers.antt") and it.parent.parent.name != "fc_laws"]),
         "laws on contracts": len(calls_in("crates/fc_base/src/list_laws.rt")),
@@ -603,6 +635,24 @@ def gallery(page):
             wrong.append(f"{file.relative_to(top)} has the headings {', '.join(headings)}, and not {', '.join(EXAMPLE)}")
 
 
+def heads(page):
+    """The heads of a page's entries, their numbers left out: what an item says in bold, the first cell of a row, or the second where the first names nothing."""
+    text = re.sub(r"[\w.,]*\w<!-- [a-z ]* -->", "N", page.read_text())
+    items = re.findall(r"(?ms)^- \*\*(.+?)\*\*", text)
+    rows = re.findall(r"(?m)^\| (?!-)(?:\(not there\) \| )?(.+?) \|.*\n(?!\|-)", text)
+    return [" ".join(it.split())[:120] for it in items + rows]
+
+
+def told():
+    """Looks that the pages of choices and differences have the entries that tools/told.txt lists, and no others."""
+    for section in (top / "tools/told.txt").read_text().strip().split("\n\n")[1:]:
+        named, *listed = section.split("\n")
+        there = heads(top / named.removeprefix("== "))
+        wrong.extend(f"{named.removeprefix('== ')} has no entry '{it}', which tools/told.txt lists" for it in listed if it not in there)
+        wrong.extend(f"tools/told.txt does not list the entry '{it}' of {named.removeprefix('== ')}" for it in there if it not in listed)
+
+
+told()
 wrong_bodies(top / "docs/PROMISES.md")
 gallery(top / "docs/GALLERY.md")
 quoted_files()

@@ -13,18 +13,28 @@ The program with a budget runs each case of one key or of two, and each of a who
 by reasoning where the nodes are full, and is looked for else: in so many bytes nothing is refused, in one less the command is, or what fills before it. Where a request
 is refused in a budget that suffices just so, the command is refused, and done where it comes once more: what it had taken was given back.
 
-Trees are also looked at from outside: after a command on a whole map or set, and after `retain` and `extract_if` in the probe of the map, a copy makes no fewer and no more
-requests than that of a sound tree of so many pairs can. It prints a line for each case, and last 'N passed, M failed'. It needs a C compiler."""
+The probe of the map makes a map of many items in mixed order, and extends one by a vector, with each request refused in turn: all items are there
+then, or else what was there before and the whole vector.
+
+Trees are also looked at from outside: a command on a whole map or set is done where no request is refused, and after it, and after `retain` and `extract_if` in the
+probe of the map, a copy makes no fewer and no more requests than that of a sound tree of so many pairs can. With all memory refused, keys then go into each gap of those
+of up to 255 pairs: a leaf that takes more of them than a sound one has room for had too few. Where keys went in and out one by one, copies make just as many requests as
+those of the trees that tools/trees.py gives. It prints a line for each case, and last 'N passed, M failed'. It needs a C compiler."""
 import argparse
 import concurrent.futures
+import itertools
 import os
+import random
+import re
 import sys
 import tempfile
 from typing import NamedTuple
 
 sys.dont_write_bytecode = True
+import fuzz
 import judge
-from judge import Case
+import trees
+from judge import CAPACITY, LEAST, Case
 
 STEPS = 4000  # so many steps of a walk fit in a line
 
@@ -43,17 +53,33 @@ def extend(name, keys):
     return f"extend {name} " + " ".join(str(key) if name in "st" else f"{key} {key % 10}" for key in keys)
 
 
-# An extension by ascending keys fills each leaf, and the key behind it goes up: at 255 pairs there are sixteen full leaves below one full root. Each 256 more are
-# a full inner node with its leaves and the pair before it: at 4,095 the root above is full too. New keys lie in front, within and behind.
+# So many keys fill a leaf; sixteen leaves below a root of fifteen; and as many of these below another root. New keys lie in front, within and behind.
 FULL, TWO, FOUR = range(2, 32, 2), range(2, 512, 2), range(2, 8192, 2)
 ONE, THREE = range(2, 12), range(2, 302)
 NEW = 9999  # a key beyond all of them
 
 
+def begun(leaves, behind):
+    """The keys that make so many leaves, in ascending order: the first of each, with the one behind it; behind the last these, or none."""
+    ends = [*(leaf[CAPACITY:] for leaf in leaves[:-1]), behind]
+    return [key for leaf, end in zip(leaves, ends) for key in [*leaf[: LEAST + 1], *end]]
+
+
+def full_order(keys):
+    """The keys in an order in which insertions leave each node full, of one level to three. Those that come in ascending order leave one key more than
+    the least in each node behind which another begins. So nine leaves of each inner node come first, then its others, and at last what the leaves lack."""
+    each = CAPACITY + 1
+    leaves = [keys[at : at + each] for at in range(0, len(keys), each)]
+    *others, last = [leaves[at : at + each] for at in range(0, len(leaves), each)]
+    order = [key for node in others for key in begun(node[: LEAST + 2], node[-1][CAPACITY:])] + begun(last, [])
+    order += [key for node in others for key in [*node[LEAST + 1][CAPACITY:], *begun(node[LEAST + 2 :], [])]]
+    return order + sorted({*keys} - {*order})
+
+
 def extends(name, keys):
     """The lines that fill the map or the set, each with nodes that are full to its end."""
-    ends = [0, *range(len(TWO), len(keys), len(TWO) + 1), len(keys)] if len(keys) > len(TWO) else [0, len(keys)]
-    return [extend(name, keys[i:j]) for i, j in zip(ends, ends[1:]) if i < j]
+    order, each = full_order(keys) if keys else [], len(TWO) + 1
+    return [extend(name, order[at : at + each]) for at in range(0, len(order), each)]
 
 
 def places(keys):
@@ -250,6 +276,54 @@ def tried(work):
     return not wrong, "\n".join([said, *wrong[:5]])
 
 
+# Loads of many items in mixed order, in the probe of the map.
+
+
+class Load(NamedTuple):
+    """The row of a load, the stretches of numbers that are there before and behind it, and whether each request that is refused refuses it."""
+
+    row: str
+    before: str
+    behind: str
+    is_whole: bool
+
+
+# Of 3,000 some are gathered and put in before the end, and the others at it. 20 are so few beside 1,480 that they go in one by one.
+LOADS = (
+    Load("make 3000 37", "0 85 1", "0 3000 1", False),
+    Load("extend_vec 1400 37", "0 85 1", "0 1400 1", True),
+    Load("extend_vec 20 7", "20 1480 1", "0 1500 1", True),
+)
+
+
+def wrong_load(program, load, lines, refused):
+    """What is wrong in a run of a load with requests refused, or None; and whether it was told as refused."""
+    ran = program.run(Case(lines, **refused))
+    told = ran.replies[1] == f"{load.row}: no memory" if len(ran.replies) > 1 else None
+    is_refused = told or load.is_whole
+    there = [" WRONG", " right"] if is_refused else [" right", " WRONG"]
+    shown = [f"holds {some}:{is_there}" for some, is_there in zip((load.behind, load.before), there)]
+    wanted = [f"{load.row}: {'no memory' if is_refused else 'done'}", *shown]
+    is_well = ran.replies[1:] == wanted and (ran.status, ran.kept) == (0, "0")
+    told_all = f"told {ran.replies[1:]}, with status {ran.status} and {ran.kept} blocks not given back"
+    return None if is_well else f"  {refused}: wanted {wanted}, {told_all}", told
+
+
+def tried_load(work):
+    """Whether a load is well where each of its requests is refused in turn, and all from it on, and what is printed: it leaves all items, or else what
+    was there before."""
+    program, load = work
+    lines = [line.encode() for line in (f"fill {load.before}", load.row, f"holds {load.behind}", f"holds {load.before}")]
+    first, behind = (program.run(Case(lines[: 1 + more])).requests + 1 for more in (0, 1))
+    runs = [wrong_load(program, load, lines, how) for n in range(first, behind) for how in ({"requests": (n,)}, {"onward": n})]
+    wrong, told = [fault for fault, _ in runs if fault], sum(bool(is_told) for _, is_told in runs)
+    # Room for what is gathered may be refused, and then all is put in one by one.
+    if told == 0 or told == len(runs) and not load.is_whole:
+        wrong.append(f"  {told} of {len(runs)} runs were told as refused")
+    said = f"{load.row} after {load.before}: {behind - first} requests, {told} of {len(runs)} told"
+    return not wrong, "\n".join([f"{said}: {'FAILED' if wrong else 'ok'}", *wrong[:5]])
+
+
 # Trees from outside.
 
 SIZES = (1, 15, 16, 30, 127, 255, 600, 1400)
@@ -288,20 +362,121 @@ def kept():
                     yield word, [f"{word} 0 {n} 1 {tenths} {in_a_row} {tenths + n}"]
 
 
+APART = 16  # so far apart are keys where new ones go between them
+PROBED = 255  # the most pairs of a tree whose leaves are filled
+
+
+def spread(lines):
+    """The lines with numbers that lie apart, and what stands behind them."""
+    lines, world = [re.sub("[0-9]+", lambda number: str(APART * int(number[0])), line).encode() for line in lines], [judge.Pairs()] * 4
+    for line in lines:
+        _, world = judge.answered(world, judge.command_of(line))
+    return lines, world
+
+
+def short_leaves(program, name, lines, keys):
+    """The keys behind which a leaf takes more new ones than it may have room for, where no memory is to be had from the end of the lines on."""
+    room, word = CAPACITY - LEAST, {"a": "insert a {} 7", "b": "insert b {} 7", "s": "add s {}", "t": "add t {}"}[name]
+    gaps = [0, *keys]
+    tried = [word.format(key + more).encode() for key in gaps for more in range(1, room + 2)]
+    ran = program.run(Case(lines + tried, onward=program.run(Case(lines)).requests + 1))
+    if len(ran.replies) != len(lines) + len(tried):
+        return [judge.ending(ran.status, ran.error)]
+    taken = [not reply.startswith("refused") for reply in ran.replies[len(lines) :]]
+    return [key for i, key in enumerate(gaps) if all(taken[i * (room + 1) : (i + 1) * (room + 1)])]
+
+
+def wrong_leaves(lines):
+    """A function that tells what is wrong with the leaves of a tree behind the lines, by its program and its name; of a lone leaf, nothing is."""
+    lines, world = spread(lines)
+
+    def told(program, name):
+        keys = world[judge.NAMES[name.encode()]].keys
+        return short_leaves(program, name, lines, keys) if CAPACITY < len(keys) <= PROBED else []
+
+    return told
+
+
 def wrong_shapes(work):
     """What makes a tree, and what is wrong with those that stand then."""
     program, (word, lines) = work
     names = [""] if word in ("retain", "extract") else [" s", " t"] if lines[0].split(" ")[1] in "st" else [" a", " b"]
-    made = f"  {lines[-1][:60]} after {len(lines) - 1} lines"
+    made, leaves = f"  {lines[-1][:60]} after {len(lines) - 1} lines", wrong_leaves(lines) if names[0] else None
     lines = [line.encode() for line in lines + [f"len{name}" for name in names]]
-    ran, wrong = program.run(Case(lines)), []
+    ran = program.run(Case(lines))
     if ran.status != 0:
         return word, [f"{made}: {judge.ending(ran.status, ran.error)}"]
+    wrong = [f"{made}: line {at + 1} was refused, and no request was" for at in refused_at(ran)]
     for name, reply in zip(names, ran.replies[-len(names) :]):
         copied = program.run(Case([*lines, f"copy{name}".encode()]))
         fault = judge.fault_of_copy(len(lines), int(reply.split(" ")[-1]), copied.requests - ran.requests)
         wrong += [f"{made}: wanted {fault.wanted}, told {fault.told}"] if fault else []
+        short = leaves(program, name[1:]) if leaves else []
+        wrong += [f"{made}, each number {APART}-fold: too few pairs in leaves of{name}, at {short[:5]}"] if short else []
     return word, wrong
+
+
+# Trees that lines of one key make and wear.
+
+WORN = fuzz.THIN[4]  # so many keys go in, which stand on four levels where they come in descending order
+COPIED = 50  # a copy comes at each line of so many
+SINGLY = {
+    ("a", "put"): ("insert a {} 7", "entry a {} 7 8"),
+    ("a", "take"): ("remove a {}", "evict a {}"),
+    ("s", "put"): ("add s {}", "replace s {}"),
+    ("s", "take"): ("take s {}", "drop s {}"),
+}
+
+
+def orders():
+    """What is done with keys, in several orders: most go in and out, then half of them again, and at last all go out."""
+    draw, keys = random.Random(1), list(range(1, WORN + 1))
+    for coming, going in itertools.product(("ascending", "descending", "at random"), fuzz.ORDERS):
+        into, out = (fuzz.ORDERS[order](draw, keys) for order in (coming, going))
+        yield [("put", into), ("take", out[: WORN * 5 // 6]), ("put", draw.sample(keys, WORN // 2)), ("take", out)]
+
+
+def worn():
+    """Lines of one key each on a map or a set, with copies between them, and the requests that each copy is to make."""
+    for steps, name in zip(orders(), itertools.cycle("as")):
+        tree, lines, wanted = trees.Tree(), [], []
+        for at, (call, key) in enumerate((call, key) for call, keys in steps for key in keys):
+            getattr(tree, call)(key)
+            lines.append(SINGLY[name, call][at % 2].format(key))
+            if at % COPIED == 0:
+                lines.append(f"copy {name}")
+                wanted.append(tree.requests())
+        yield lines, wanted
+
+
+def is_copy(line):
+    return line.startswith("copy")
+
+
+def front(lines, copies):
+    """The lines up to the last of so many copies."""
+    return lines[: [at for at, line in enumerate(lines) if is_copy(line)][copies - 1] + 1]
+
+
+def asked_by_copies(program, lines):
+    """How many requests the copies among the lines make together, or None where a run doesn't end well."""
+    runs = [program.run(Case([line.encode() for line in some])) for some in (lines, [line for line in lines if not is_copy(line)])]
+    return None if any(ran.status for ran in runs) else runs[0].requests - runs[1].requests
+
+
+def wrong_worn(work):
+    """What is wrong with the copies among lines of one key each: the first that makes other requests, as the requests of all up to it tell."""
+    program, (lines, wanted) = work
+    if asked_by_copies(program, lines) == sum(wanted):
+        return "one key", []
+    least, most = 0, len(wanted)
+    while most - least > 1:
+        middle = (least + most) // 2
+        is_well = asked_by_copies(program, front(lines, middle)) == sum(wanted[:middle])
+        least, most = (middle, most) if is_well else (least, middle)
+    shown = front(lines, most)
+    told = asked_by_copies(program, shown)
+    return "one key", [f"  {shown[-2]} after {len(shown) - 2} lines from {shown[0]} on: wanted {sum(wanted[:most])} requests of {most} copies, told {told}"]
 
 
 def main():
@@ -321,7 +496,13 @@ def main():
             if not is_well:
                 print(said)
         print(f"the same in budgets: {runs} runs")
+        for is_well, said in pool.map(tried_load, [(probe, load) for load in LOADS]):
+            passed, failed = passed + is_well, failed + (not is_well)
+            print(said)
         for word, faults in pool.map(wrong_shapes, [*((program, shape) for shape in shapes()), *((probe, shape) for shape in kept())], chunksize=8):
+            looked[word] = looked.get(word, 0) + 1
+            wrong.setdefault(word, []).extend(faults)
+        for word, faults in pool.map(wrong_worn, [(program, lines) for lines in worn()]):
             looked[word] = looked.get(word, 0) + 1
             wrong.setdefault(word, []).extend(faults)
     for word, faults in wrong.items():

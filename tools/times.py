@@ -128,13 +128,14 @@ def first_checks(sums):
 def begin(log):
     """Says what the gate will do, how long that takes, and what it needs."""
     crates = re.findall(r"^(\w+)[^:#\n]*:", pathlib.Path("crates.txt").read_text(), re.M)
-    row = re.search(r"^\| (\w+) \| (\S+) \| (\d+) \| (\d+) \| (\d+) \|", PAGE.read_text(encoding="utf-8"), re.M)
+    rows = re.findall(r"^\| (\w+) \| (\S+) \| (\d+) \| (\d+) \| (\d+) \|", PAGE.read_text(encoding="utf-8"), re.M)
     two = re.search(r"on 2 cores (?:some )?(\d+) minutes", PAGE.read_text(encoding="utf-8"))
     print(f"test: proves {len(crates)} crates and their tests, tries {sum(map(edits_of, crates))} wrong bodies, runs each test and program,")
     print("test: then lines through the built program, its ends, and all with each request for memory refused in turn.")
-    if row:
+    if rows:
+        commit, _, cores, minutes, _ = rows[-1]
         on_two = f", some {two[1]} on 2 by a model" if two else ""
-        print(f"test: from nothing it takes {row[4]} minutes on {row[3]} cores{on_two} (docs/GATE.md); far less where this machine kept the proofs.")
+        print(f"test: from nothing it took {minutes} minutes on {cores} cores at {commit}{on_two} (docs/GATE.md); far less where this machine kept the proofs.")
     free = shutil.disk_usage(".").free / 1e9
     print(f"test: it needs rt, cc and python3, 8 GB of memory and 5 GB of disk ({free:.0f} are free); what rt ci says goes to {log}", flush=True)
 

@@ -2,7 +2,7 @@
 import re
 from typing import NamedTuple
 
-from judge import GREATEST
+from judge import CAPACITY, GREATEST
 
 ROOM = 1024  # the most bytes of a line
 BUDGET = 100  # the most that all entries of the cache cost together
@@ -58,7 +58,7 @@ class Talk:
     REFUSED = (0, 1, 20, 60, 200, 500), (2, 8, 30, 100, 400)  # from which request on some are refused, how many are not between them, and how many in a row are
 
     def __init__(self, draw):
-        self.draw, self.size = draw, draw.choice(SIZES)
+        self.draw, self.size, self.filling = draw, draw.choice(SIZES), 1 / 2
         self.first = draw.choice([0, 0, GREATEST - self.size])
         words = [it for it in self.MODEL.KINDS if it != self.LIST]
         self.words = draw.choices(words, [draw.choice([1, 3, 9]) for _ in words], k=draw.choice([30, 300, 1000]))
@@ -104,7 +104,7 @@ class Talk:
         return other if self.model().knows([int(it) for it in re.findall("[0-9]+", other)]) else line
 
     def lines(self):
-        lines = self.filled() if self.draw.random() < 0.5 else []
+        lines = self.filled() if self.draw.random() < self.filling else []
         lines += [self.LIST if self.draw.random() < 0.02 else self.line(word, self.place()) for word in self.words]
         lines = [self.spoiled(it) if self.draw.random() < 0.02 else it for it in lines]
         return [it.encode("latin-1") for it in [self.LIST, *lines, *self.shown()]]
@@ -112,14 +112,15 @@ class Talk:
 
 # Intervals.
 
-ENDS = {"empty", "no end", "the start", "the end", "both ends", "one within it", "refused"}
+MET = {"no end", "the start", "the end", "both ends", "one within it"}
+ENDS = {"empty", "refused", *MET}
 
 
 class Intervals(Model):
     """Points one after another. Each has nothing, or the number of an interval and its value: one interval is a number at points in a row."""
 
     KINDS = {
-        "put": (3, ENDS),
+        "put": (3, ENDS | {f"refused among many, {met}" for met in MET}),
         "cut": (2, ENDS),
         "split": (1, {"none", "in two", "refused"}),
         "join": (1, {"none", "other values", "joined"}),
@@ -202,7 +203,10 @@ class Intervals(Model):
         if end <= start:
             return Answer(["empty interval"], "empty")
         at = self.place(start), self.place(end)
-        return Answer(["ok"], self.ends_met(*at), lambda: self.write(*at, value), "refused")
+        met = self.ends_met(*at)
+        # So many stand in several leaves: what was put in at one end has to go out again where the other is refused.
+        refused = f"refused among many, {met}" if self.many > CAPACITY else "refused"
+        return Answer(["ok"], met, lambda: self.write(*at, value), refused)
 
     def cut(self, start, end):
         if end <= start:
@@ -239,6 +243,9 @@ class Intervals(Model):
         return Answer([f"intervals: {len(found)}", *found], "told")
 
 
+PARTED = 1 / 3  # in how many of the runs many intervals are parted
+
+
 class TalkOfIntervals(Talk):
     MODEL = Intervals
     REFUSED = (0, 1, 3, 8, 20), (1, 1, 2, 4), (1, 3, 10, 40)  # only what goes into a full leaf makes requests
@@ -246,19 +253,29 @@ class TalkOfIntervals(Talk):
     def __init__(self, draw):
         super().__init__(draw)
         self.longest = draw.choice([1, 3, self.size // 3 + 1, self.size])
+        self.parts = draw.random() < PARTED  # whether most lines put a short interval into one of many that are longer
+        if self.parts:
+            self.size, self.filling = draw.choice([100, 300, 900]), 1
+            self.first = draw.choice([0, GREATEST - self.size])
+            self.words = draw.choices(["put", "cut", "split", "join", "at"], [12, 2, 2, 1, 1], k=300)
 
     def model(self):
         return Intervals(self.first, self.size)
 
+    def length(self):
+        """How many points an interval has at the most, and one time in eight many where most are short."""
+        return self.longest if not self.parts else self.draw.choice([1, 1, 1, 2, 2, 2, 2, 30])
+
     def numbers(self, word, key):
         """One time in ten a range is empty or the wrong way round."""
-        end = min(self.first + self.size, key + self.draw.randint(1, self.longest))
+        end = min(self.first + self.size, key + self.draw.randint(1, self.length()))
         start, end = (end, key) if self.draw.random() < 0.1 else (key, end)
         return {0: [], 1: [key], 2: [start, end], 3: [start, end, self.draw.randrange(4)]}[Intervals.KINDS[word][0]]
 
     def filled(self):
-        points = [self.first + at for at in self.draw.sample(range(self.size), self.size * 2 // 3)]
-        return [*(f"put {it} {it + 1} {it % 3}" for it in points), "list"]
+        each = 4 if self.parts else 1
+        points = [self.first + at for at in self.draw.sample(range(0, self.size, each), self.size // each * 2 // 3)]
+        return [*(f"put {it} {min(it + each, self.first + self.size)} {it % 3}" for it in points), "list"]
 
     def shown(self):
         whole = f"{self.first} {self.first + self.size}"

@@ -11,7 +11,7 @@ import sys
 MOST_WORDS, MOST_CHARACTERS, MOST_IN_CELL = 15_400, 100, 25
 top = pathlib.Path(__file__).resolve().parent.parent
 QUOTED = re.compile(r"(?ms)^<!-- (?:code|body|proved|caller|imports|contracts|clauses|literal|lines|file): [^\n]+ -->\n```\w*\n.*?^```$")
-WRITTEN = re.compile(r"(?ms)^<!-- (figures|by crate|table: [^\n]+|stack|laws|costs|crates|promises|std|calls on one key|definitions below|definitions of proofs) -->\n.*?^<!-- end(?: of \1)? -->$")
+WRITTEN = re.compile(r"(?ms)^<!-- (figures|by crate|table: [^\n]+|stack|laws|costs|crates|promises|by hand|std|calls on one key|definitions below|definitions of proofs) -->\n.*?^<!-- end(?: of \1)? -->$")
 NUMBERED = re.compile(r"(?m)^\| \d+ \| (?=`crates/.* \| \d+ \|)")  # rows that tools/statements.py numbers
 COMPARED = re.compile(r"(?m)^ {6}(?:was |is  |new |gone) .*$")  # clauses that tools/changes.py lists
 FENCED = re.compile(r"(?ms)^```.*?^```$")

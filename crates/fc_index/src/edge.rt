@@ -2,7 +2,8 @@
 ghost use Rattle.std.specs.Prelude.{◌≡◌};
 ghost use Rattle.fc_base.specs.Ranges.{bound_by};
 ghost use Rattle.fc_set.specs.Items.{items, items_within, AreAscending};
-ghost use Rattle.fc_index.specs.Edges.{edge_order, edges_fit, start_edge, end_edge};
+ghost use Rattle.fc_set.proofs.EdgeFacts.{edges_fit};
+ghost use Rattle.fc_index.specs.Edges.{edge_order, start_edge, end_edge};
 ghost use Rattle.fc_index.specs.Rows.{key_then_id};
 
 use fc_base::{Handle, Query};

@@ -52,7 +52,7 @@ module _ {K V : Type 0} (cmp : K → K → Ordering) where
 
   -- ---- a key after all others
 
-  none_at : (s : List (K × V)) (k : K) → AllByRecursion (λ e. cmp e.0 k ≡ Less) s → at cmp s k ≡ None
+  pub none_at : (s : List (K × V)) (k : K) → AllByRecursion (λ e. cmp e.0 k ≡ Less) s → at cmp s k ≡ None
   none_at [] k a = refl
   none_at (e ∷ s) k a = ap (λ o. cond (is_eq o) (Some e) (at cmp s k)) a.0 ∙ none_at s k a.1
 

@@ -1,12 +1,30 @@
 -- A list of items extended by more, one after another, as the keys of pairs are.
-use Rattle.std.proofs.Common.{◌≡◌, List, [], ◌∷◌, ◌++◌, refl, sym, ap, subst, ◌∙◌}
+use Rattle.std.proofs.Common.{◌≡◌, List, [], ◌∷◌, ◌++◌, None, length, refl, sym, ap, subst, ◌∙◌}
 use Rattle.std.specs.declared.cmp.Ordering.{Ordering}
 use Rattle.fc_base.specs.declared.try_reserve_error.TryReserveError.{TryReserveError}
 use Rattle.fc_base.specs.Extended.{extended, IsExtendedUpTo}
 use Rattle.fc_base.specs.Growth.{MayGrowRefuse}
 use Rattle.fc_base.specs.OneKey.{put}
-use Rattle.fc_set.specs.Items.{extended_items, AreExtendedUpTo}
+use Rattle.fc_set.specs.Items.{item_at, with_item, extended_items, AreExtendedUpTo}
 use Rattle.fc_set.proofs.ItemFacts.{keys, keys_length, with_item_keys, keys_none}
+
+module _ {T : Type 0} (cmp : T → T → Ordering) where
+  more : (s given : List T) (x : T) → with_item cmp (extended_items cmp s given) x ≡ extended_items cmp s (given ++ x ∷ [])
+  more s [] x = refl
+  more s (y ∷ given) x = more (with_item cmp s y) given x
+
+  -- One more item is put into what those before it made.
+  pub extended_more : (s given old new : List T) (x : T) → old ≡ extended_items cmp s given → new ≡ with_item cmp old x
+      → new ≡ extended_items cmp s (given ++ x ∷ [])
+  extended_more s given old new x e f = f ∙ ap (λ l. with_item cmp l x) e ∙ more s given x
+
+  -- A new item was refused, and no more than that was taken.
+  pub stopped_at_last : (s front new : List T) (x : T) (e : TryReserveError) → new ≡ extended_items cmp s front → item_at cmp new x ≡ None
+      → MayGrowRefuse (length new) e → (stop : AreExtendedUpTo cmp s (front ++ x ∷ []) new e) × (stop.rest ≡ [])
+  stopped_at_last s front new x e is absent error = (
+    record { front = front; item = x; rest = []; taken = refl; put_in = is; new_item = absent; error = error },
+    refl,
+  )
 
 module _ {T V : Type 0} where
   keys_both : (s t : List (T × V)) → keys (s ++ t) ≡ keys s ++ keys t

@@ -5,6 +5,7 @@ pub mod CopiedFacts
 pub mod OperatorFacts
 pub mod SideFacts
 pub mod OrderFacts
+pub mod EdgeFacts
 pub mod StepFacts
 pub mod OperationLaws
 pub mod NeighbourFacts

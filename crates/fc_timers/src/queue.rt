@@ -2,6 +2,7 @@
 ghost use Rattle.std.specs.Prelude.{◌≡◌, ℕ, ◌==◌, ◌∷◌, ◌++◌, [], if◌then◌else◌, ◌+◌, ◌<◌, ◌≤◌, ◌⊎◌, ◌↔◌, IsTrue, IfSome, IfNone, OnSome, IfOk, IfErr, OnOk, OnErr, IsErr, IsOk, IsSome, Some, None, count_by, is_some, length, map, slice_index_or, slice_set, option_copied};
 ghost use Rattle.std.specs.Option.{option_map};
 ghost use Rattle.fc_base.specs.declared.try_reserve_error.TryReserveError.{TryReserveError as Error};
+ghost use Rattle.fc_base.specs.Growth.{append_error};
 ghost use Rattle.fc_timers.specs.Timers.{AreGivenOut, GivenTimer, HasNone, IsChanged, IsDrained, IsEarliest, IsPopped, NoneDue, armed, newly, renewed, timer_count};
 ghost use Rattle.fc_timers.specs.Tournament.{IsFirst};
 ghost use Rattle.fc_timers.specs.declared.timer.Armed.{Armed as Held};
@@ -75,22 +76,25 @@ impl<T: Ord, V, A: Handle> TimerQueue<T, V, A> {
     /// no memory.
     ///
     /// # Errors
-    /// `AllocError` where the request was refused. The queue is then as it was.
+    /// `CapacityOverflow` exactly where the length plus `additional` passes `usize::MAX`, else `AllocError`. The queue is then as it was.
     pub fn try_reserve(&mut self, additional: usize) -> Result<(), TryReserveError>
         ensures room { OnOk result (timer_count self.old + additional ≤ self.new.room) }
         ensures timers { self.new ≡ record self.old { room = self.new.room } }
         ensures kept { self.old.room ≤ self.new.room }
         ensures fits { timer_count self.old + additional ≤ self.old.room → IsOk result }
+        ensures full { usize.MAX < timer_count self.old + additional → IsErr result }
         ensures unchanged { OnErr result (self.new ≡ self.old) }
-        ensures error { IfErr result (λ e. e ≡ Error.AllocError) }
+        ensures error { IfErr result (λ e. e ≡ append_error (timer_count self.old) additional) }
     {
         let vacant = self.slots.len() - self.len;
         if additional <= vacant {
-            Ok(())
-        } else {
-            self.slots.reserve(additional - vacant)?;
-            Ok(())
+            return Ok(());
         }
+        if usize::MAX - self.len < additional {
+            return Err(TryReserveError::CapacityOverflow);
+        }
+        self.slots.reserve(additional - vacant)?;
+        Ok(())
     }
 
     /// Whether there is no timer.

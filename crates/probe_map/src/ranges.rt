@@ -95,6 +95,7 @@ pub(crate) fn run<'a>(map: &mut Map<'a>, world: World<'a>, row: &Row) -> Answer 
             number_if(is_right, wanted.count)
         }
         3 => number_if(is_visited(map, world, &bounds, all), wanted.count),
+        4 => costs(map, &bounds),
         _ => UNKNOWN,
     }
 }
@@ -139,6 +140,20 @@ fn meets<'a>(map: &Map<'a>, bounds: &Bounds<'a>, wanted: Stretch, turns: Turns) 
     let mut range = map.range((lo, hi));
     comparisons.set(0);
     follows(&mut range, wanted, turns) && comparisons.get() == 0
+}
+
+// How many comparisons it takes to find a range, if it takes a writing one as many, and one whose pairs all stay.
+fn costs<'a>(map: &mut Map<'a>, bounds: &Bounds<'a>) -> Answer {
+    let comparisons = bounds.comparisons();
+    comparisons.set(0);
+    drop(map.range((bounds.lo(), bounds.hi())));
+    let reading = comparisons.get();
+    comparisons.set(0);
+    drop(map.range_mut((bounds.lo(), bounds.hi())));
+    let writing = comparisons.get();
+    comparisons.set(0);
+    map.retain_range((bounds.lo(), bounds.hi()), |_key, _value| true);
+    number_if(reading == writing && reading == comparisons.get(), reading)
 }
 
 // Whether a clone and its source each give what is left when so many were taken at either end, and compare nothing.

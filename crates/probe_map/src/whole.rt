@@ -35,6 +35,7 @@ pub(crate) fn run<'a>(
         7 => done_or_refused(make(map, world, listed(world, number, distance))),
         8 => done_or_refused(extend(map, told(world, row))),
         9 => done_or_refused(make(map, world, told(world, row))),
+        10 => extend_from_vec(map, listed(world, number, distance), number, distance),
         _ => UNKNOWN,
     }
 }
@@ -63,6 +64,7 @@ pub(crate) fn tell(world: World<'_>, row: &Row) -> Answer {
         3 => Answer::Number(world.counts.left.get()),
         4 => lives_in(world, stretch_in(row, 0)),
         5 => forget(world),
+        6 => whether(world.counts.comparisons.get() <= row.number(0)),
         _ => UNKNOWN,
     }
 }
@@ -221,6 +223,41 @@ fn extend_by_map<'a>(
     world: World<'a>,
 ) -> Result<(), TryReserveError> {
     map.try_extend(mem::replace(other, BTreeMap::new(world.alloc)))
+}
+
+// Extends by a vector of the listed numbers, which comes back whole where it is refused.
+fn extend_from_vec<'a>(
+    map: &mut Map<'a>,
+    pairs: Result<Pairs<'a>, TryReserveError>,
+    count: u64,
+    step: u64,
+) -> Answer {
+    let pairs = match pairs {
+        Ok(pairs) => pairs,
+        Err(e) => return refused(e),
+    };
+    match map.try_extend_from_vec(pairs) {
+        Ok(()) => DONE,
+        Err((back, e)) => {
+            if are_listed(&back, count, step) {
+                refused(e)
+            } else {
+                WRONG
+            }
+        }
+    }
+}
+
+// Whether these are the pairs of `listed`.
+fn are_listed(all: &Pairs<'_>, count: u64, step: u64) -> bool {
+    let mut place = 0u64;
+    for (key, value) in all {
+        if place >= count || !is_pair(Some((key, value)), place.wrapping_mul(step) % count, 0) {
+            return false;
+        }
+        place = place.wrapping_add(1);
+    }
+    place == count
 }
 
 // A new map of the pairs takes the place of the old one.

@@ -10,10 +10,10 @@ const NAMES: [&str; 9] = [
     "tally modify or_with entry_dropped",
     "walk keys_and_values clone_walk clone_keys_and_values owned owned_loops held drop_walk",
     "write write_values write_part overwrite visit",
-    "range clone_range write_range visit_range",
-    "swap copy compare extend_map step copy_refused extend make extend_pairs make_pairs",
+    "range clone_range write_range visit_range range_costs",
+    "swap copy compare extend_map step copy_refused extend make extend_pairs make_pairs extend_vec",
     "len is_empty clear drop fill holds pops",
-    "comparisons calls left copies_left lives forget",
+    "comparisons calls left copies_left lives forget at_most",
     "retain extract room",
 ];
 

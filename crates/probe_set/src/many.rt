@@ -30,9 +30,13 @@ fn items_in<'a>(sets: &Sets<'a>, word: &str) -> Result<Vec<Item<'a>>, AllocError
     }
 }
 
+// The items of a range, always so many steps on and round: in ascending order where that is one.
 fn in_range<'a>(sets: &Sets<'a>, numbers: Numbers) -> Result<Vec<Item<'a>>, AllocError> {
     let mut items = Vec::new(sets.alloc);
-    for number in numbers.first..numbers.end {
+    let count = numbers.end.saturating_sub(numbers.first);
+    for turn in 0..count {
+        let place = turn.wrapping_mul(numbers.step) % count;
+        let number = numbers.first.wrapping_add(place);
         items.push(Item::new(number, numbers.letter, sets.tally))?;
     }
     Ok(items)

@@ -16,6 +16,7 @@ pub(crate) fn one_word<'a>(sets: &mut Sets<'a>, name: &str, word: &str, out: &mu
             "fill_down" => fill_down(sets, numbers, out),
             "take_ends" => take_ends(sets, numbers, out),
             "is_just" => out.is(is_just(sets, numbers)),
+            "room" => tell_room(sets, numbers, out),
             "neighbours" => near::count(sets, numbers, out),
             _ => out.word("?"),
         }
@@ -83,6 +84,15 @@ fn is_just(sets: &Sets<'_>, numbers: Numbers) -> bool {
     agrees
         && walk.next().is_none()
         && sets.ours.len() as u64 == numbers.end.saturating_sub(numbers.first)
+}
+
+// How many places nodes were taken for, a place for each number.
+fn tell_room(sets: &Sets<'_>, numbers: Numbers, out: &mut Out) {
+    let places = numbers.end.saturating_sub(numbers.first);
+    match sets.ours.try_reserve_nodes(places as usize) {
+        Ok(room) => out.number(room.places() as u64),
+        Err(e) => out.refused(e),
+    }
 }
 
 fn is_number(item: Option<&Item<'_>>, number: u64) -> bool {

@@ -93,3 +93,14 @@ fn a_values_own_refusal_is_passed_on(rt: HostRuntime) -> Result<(), Fail> {
     assert!(rt; tally.living() == 1);
     Ok(())
 }
+
+// No clause says that a box is made where there is memory: a body that refuses large values is proved too.
+#[test]
+fn a_value_of_8192_bytes_is_boxed_and_copied(rt: HostRuntime) {
+    assert!(rt; Box::try_new(rt.alloc(), [7u64; 1024]).is_ok());
+    let is_copied = match TryBox::try_new(rt.alloc(), [7u64; 1024]) {
+        Ok(made) => made.try_clone().is_ok(),
+        Err(_refused) => false,
+    };
+    assert!(rt; is_copied);
+}

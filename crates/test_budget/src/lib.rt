@@ -10,4 +10,6 @@ mod blocks;
 #[cfg(test)]
 mod collections;
 #[cfg(test)]
+mod inner;
+#[cfg(test)]
 mod refusals;

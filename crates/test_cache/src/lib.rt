@@ -7,4 +7,6 @@ mod calls;
 #[cfg(test)]
 mod order;
 #[cfg(test)]
+mod owned;
+#[cfg(test)]
 mod refusals;

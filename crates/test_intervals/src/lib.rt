@@ -6,6 +6,8 @@ mod joins;
 #[cfg(test)]
 mod numbers;
 #[cfg(test)]
+mod owned;
+#[cfg(test)]
 mod refusals;
 #[cfg(test)]
 mod row;

@@ -9,6 +9,8 @@ mod blocks;
 #[cfg(test)]
 mod collections;
 #[cfg(test)]
+mod inner;
+#[cfg(test)]
 mod refusals;
 #[cfg(test)]
 mod threads;

@@ -8,6 +8,8 @@ mod listed;
 #[cfg(test)]
 mod order;
 #[cfg(test)]
+mod owned;
+#[cfg(test)]
 mod refusals;
 #[cfg(test)]
 mod row;

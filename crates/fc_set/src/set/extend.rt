@@ -129,8 +129,8 @@ impl<T: Ord + Drop> TryFromIterator<T> for BTreeSet<T> {
                 Err(error) => return Err(error),
             }
         }
-        match load.finish() {
-            Ok(map) => Ok(BTreeSet { map }),
+        match load.flush() {
+            Ok(()) => Ok(BTreeSet { map: load.finish() }),
             Err(error) => Err(error),
         }
     }

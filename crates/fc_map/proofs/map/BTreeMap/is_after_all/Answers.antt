@@ -1,4 +1,4 @@
-use Rattle.std.proofs.Common.{sym, ap, subst, ◌∙◌}
+use Rattle.std.proofs.Common.{◌≡◌, is_lt, refl, sym, ap, subst, ◌∙◌}
 use Rattle.std.specs.List.{AllByRecursion}
 use Rattle.std.specs.declared.cmp.Ordering.TheVariants.{Less}
 use Rattle.fc_map.specs.Entries.{entries, now_pair}
@@ -9,7 +9,7 @@ use Rattle.fc_map.proofs.map.BTreeMap.is_after_all.Goals as goal
 pub returns-in-None : goal.returns-in-None
 returns-in-None g c =
     let none = last_none _ (ap now_pair (sym c.in-None.is) ∙ c.last_key_value.ensures.pair) in
-    (λ _. subst (AllByRecursion (λ e. g.K.Ord.cmp e.0 c.args.key.now ≡ Less)) (sym none) tt, λ _. tt)
+    (λ _. subst (AllByRecursion (λ e. g.K.Ord.cmp e.0 c.args.key.now ≡ Less)) (sym none) tt, λ _. refl)
 
 pub returns-in-Some : goal.returns-in-Some
 returns-in-Some g c =

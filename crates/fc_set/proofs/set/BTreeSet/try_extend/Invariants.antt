@@ -1,12 +1,8 @@
-use Rattle.std.proofs.Common.{◌≡◌, List}
-use Rattle.std.specs.Prelude.{⊤}
-use Rattle.fc_map.specs.Entries.{entries}
-use Rattle.fc_map.specs.BulkLoad.{IsLoaded}
-use Rattle.fc_set.proofs.ItemFacts.{keys}
+use Rattle.std.proofs.Common.{◌≡◌}
+use Rattle.fc_set.specs.Items.{items, extended_items}
 use Rattle.fc_set.proofs.set.BTreeSet.try_extend.Given as goal
 
--- the items so far are the keys of pairs that are put in or gathered
 abbrev pub invariant-loop-item : goal.invariant-loop-item
 invariant-loop-item g l = (goal.iterator-loop-item g).can_next l.item-iterator
     × (goal.iterator-loop-item g).is_finite l.item-iterator
-    × ((pairs : List (g.row.T.Denot × ⊤)) × (keys pairs ≡ l.yielded) × IsLoaded g.T.Ord.cmp (entries l.fn.self) pairs l.load)
+    × (items l.self.map ≡ extended_items g.T.Ord.cmp (items l.fn.self) l.yielded)

@@ -7,7 +7,7 @@ use Rattle.fc_map.proofs.map.bulk_insert.BulkInsert.merge.Goals as goal
 -- the tree has no pair
 none : (g : given.Over) (c : goal.After-merge g) → c.self.inside.tree.pairs ≡ []
 none g c =
-    all_closed g.K.Ord.cmp c.self.inside.tree.pairs (entries c.self.inside.map) c.self.invariant (λ no. c.if-len-eq0.false (c.len.ensures.value ∙ no))
+    all_closed g.K.Ord.cmp c.self.inside.tree.pairs (entries c.self.inside.map) c.self.invariant (λ no. c.if-len-eq0.false (c.len-len.ensures.value ∙ no))
 
 pub invariant_of-self : goal.invariant_of-self
 invariant_of-self g c = (c.self.invariant.0, inl (none g c))

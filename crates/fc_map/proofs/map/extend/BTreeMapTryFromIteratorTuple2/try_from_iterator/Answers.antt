@@ -34,3 +34,9 @@ returns-in-Err-clause-error g c =
             c.in-Err.ensures.error,
       ),
     )
+
+pub returns-in-Ok-flush-clause-made : goal.returns-in-Ok-flush-clause-made
+returns-in-Ok-flush-clause-made g c = ?
+
+pub returns-in-Err-flush-clause-error : goal.returns-in-Err-flush-clause-error
+returns-in-Err-flush-clause-error g c = ?

@@ -1,18 +1,44 @@
-use Rattle.std.proofs.Common.{◌++◌, subst}
-use Rattle.std.proofs.lemmas.Result.{err_from_is_err_and}
-use Rattle.fc_set.specs.Items.{items, AreExtendedUpTo}
-use Rattle.fc_set.proofs.set.whole.BTreeSetTryFromIterator.try_from_iterator.Goals as goal
+use Rattle.std.proofs.Common.{◌∷◌, ◌++◌, [], rules, refl}
+use denote.Builtin.{unit}
+use denote.Param.{param}
+use Rattle.fc_vec.proofs.ItemFacts.{yields_more}
+use Rattle.fc_map.proofs.BulkInsertSizes.{bulk_load_fits}
+use Rattle.fc_map.proofs.LoadFacts.{all_gathered, loaded_more, stopped_after}
+use Rattle.fc_set.proofs.ItemFacts.{keys}
+use Rattle.fc_set.proofs.ExtendFacts.{keys_more, items_up_to, paired}
+use Rattle.fc_set.proofs.set.extend.BTreeSetTryFromIterator.try_from_iterator.Goals as goal
 
-pub returns-in_err-try_extend-clause-error : goal.returns-in_err-try_extend-clause-error
-returns-in_err-try_extend-clause-error g c =
-    let refused = c.in_err-try_extend.ensures.error in
-    let p = err_from_is_err_and c.from_residual.result c.from_residual.ensures.1 in
-    rw (p.1, p.2) (
-      refused.0,
-      refused.1,
+pub loop-item-init : goal.loop-item-init
+loop-item-init g c =
+    (search rules, search rules, ([], refl, all_gathered g.T.Ord.cmp [] [] c.new-load.result c.new-load.ensures.placed c.new-load.ensures.gathered))
+
+pub loop-item-preserved : goal.loop-item-preserved
+loop-item-preserved g c =
+    let done = c.loop-item.invariant.2 in (
+      search rules,
+      search rules,
       (
-        items c.try_extend.new.self,
-        λ rest. subst (λ s. AreExtendedUpTo g.T.Ord.cmp s (refused.0 ++ rest) (items c.try_extend.new.self) c.in_err-try_extend.field-0.0) c.new-set.ensures
-            (refused.2 rest),
+        done.0 ++ (c.in-Some.item, tt) ∷ [],
+        keys_more done.0 c.loop-item.yielded (c.in-Some.item, tt) done.1,
+        loaded_more g.T.Ord.cmp [] done.0 c.loop-item.load done.2 ((c.in-Some.item, tt) ∷ []) c.try_put.new.self c.in-Ok.ensures.taken,
+      ),
+    )
+
+pub returns-in-Err-try_put-clause-error : goal.returns-in-Err-try_put-clause-error
+returns-in-Err-try_put-clause-error g c =
+    let cmp = g.T.Ord.cmp in
+    let item : g.row.T.Denot = c.in-Some.item in
+    let done = c.loop-item.invariant.2 in
+    let now = c.try_put.new.self.placed in
+    let error = c.in-Err-try_put.error in
+    let taken = yields_more g.I.IntoIter.Iterator.next_gives c.into_iter-item-iterator.result c.loop-item.item-iterator c.next.new.self c.loop-item.yielded
+    item c.loop-item.yielded_by c.in-Some.ensures.steps in (
+      c.loop-item.yielded ++ item ∷ [],
+      (c.into_iter-item-iterator.result, c.into_iter-item-iterator.ensures.into_iter_gives, c.next.new.self, taken),
+      (
+        keys now,
+        λ rest. items_up_to cmp tt [] (done.0 ++ (item, tt) ∷ []) now (c.loop-item.yielded ++ item ∷ []) rest error
+            (keys_more done.0 c.loop-item.yielded (item, tt) done.1)
+            (stopped_after cmp [] done.0 c.loop-item.load done.2 (item, tt) now error c.in-Err-try_put.ensures.error (paired tt rest)),
       ),
     )

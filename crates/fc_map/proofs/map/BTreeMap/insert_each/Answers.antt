@@ -1,0 +1,1 @@
+use Rattle.fc_map.proofs.map.BTreeMap.insert_each.Goals as goal

@@ -1,0 +1,118 @@
+"""Which nodes a tree has that was made by insertions and removals of one key each, by the rules of docs/DESIGN.md. It shares no code with the library.
+
+How many requests a copy makes tells the nodes from outside: tools/refusals.py counts by it. What append, split_off and retain leave is free
+within those rules, so no call here does as they do."""
+import bisect
+
+from judge import CAPACITY, LEAST
+
+
+class Node:
+    """A node: its keys in order, and in an inner node one child more."""
+
+    def __init__(self, keys, children=None):
+        self.keys, self.children = keys, children
+
+    def place(self, key):
+        """Where the key is or belongs, and whether it is there."""
+        at = bisect.bisect_left(self.keys, key)
+        return at, self.keys[at : at + 1] == [key]
+
+    def has(self, key):
+        at, there = self.place(key)
+        return there or self.children is not None and self.children[at].has(key)
+
+    def requests(self):
+        """How many requests a copy makes: one for a leaf, and two for a node above."""
+        return 1 if self.children is None else 2 + sum(child.requests() for child in self.children)
+
+    def put(self, key):
+        """Puts a new key in at or below the node. A full node is split, and hands out the key in the middle and the node on its right."""
+        at, _ = self.place(key)
+        handed = (key, None) if self.children is None else self.children[at].put(key)
+        if handed is None:
+            return None
+        self.keys.insert(at, handed[0])
+        if handed[1] is not None:
+            self.children.insert(at + 1, handed[1])
+        return self.split(left_of(at)) if len(self.keys) > CAPACITY else None
+
+    def split(self, left):
+        """Keeps so many keys, and hands out the next one and a node of those behind it."""
+        right = Node(self.keys[left + 1 :], None if self.children is None else self.children[left + 1 :])
+        up = self.keys[left]
+        self.keys = self.keys[:left]
+        self.children = None if self.children is None else self.children[: left + 1]
+        return up, right
+
+    def take(self, key):
+        """Takes a key out at or below the node. That of an inner node gives its place to the first one on its right."""
+        at, there = self.place(key)
+        if self.children is None:
+            del self.keys[at]
+            return
+        if there:
+            self.keys[at] = self.children[at + 1].take_first()
+        else:
+            self.children[at].take(key)
+        self.mend(at + there)
+
+    def take_first(self):
+        """Takes the first key out at or below the node."""
+        if self.children is None:
+            return self.keys.pop(0)
+        key = self.children[0].take_first()
+        self.mend(0)
+        return key
+
+    def mend(self, at):
+        """Gives a child with too few keys one of the sibling on its left, or on its right where it is the first. Where both and the key between them fit
+        in one node, they are merged."""
+        if len(self.children[at].keys) >= LEAST:
+            return
+        first = max(0, at - 1)
+        left, right = self.children[first : first + 2]
+        keys = [*left.keys, self.keys[first], *right.keys]
+        children = None if left.children is None else left.children + right.children
+        whole = Node(keys, children)
+        if len(keys) <= CAPACITY:
+            del self.keys[first]
+            self.children[first : first + 2] = [whole]
+            return
+        self.keys[first], right = whole.split(len(left.keys) + (1 if at == 0 else -1))
+        self.children[first : first + 2] = [whole, right]
+
+
+def left_of(place):
+    """How many keys stay in a full node that is split for a new one at this place. The new one never goes up, and each half has the least or one more."""
+    return LEAST + 1 if place == LEAST or place > LEAST + 1 else LEAST
+
+
+class Tree:
+    """A tree that takes one key after another."""
+
+    def __init__(self):
+        self.root = None
+
+    def has(self, key):
+        return self.root is not None and self.root.has(key)
+
+    def requests(self):
+        """How many requests a copy makes."""
+        return 0 if self.root is None else self.root.requests()
+
+    def put(self, key):
+        """Puts a key in, if it is new."""
+        if self.has(key):
+            return
+        handed = self.root.put(key) if self.root else (key, None)
+        if handed:
+            self.root = Node([handed[0]], [self.root, handed[1]] if self.root else None)
+
+    def take(self, key):
+        """Takes a key out, if it is there. A root without keys gives way to its only child."""
+        if not self.has(key):
+            return
+        self.root.take(key)
+        if not self.root.keys:
+            self.root = self.root.children[0] if self.root.children else None
