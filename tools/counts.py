@@ -60,6 +60,8 @@ OWN = {
     # pairs asked in turn, and the tree rebalanced after, whose moves nothing promises
     "fc_tree_retain/src/rebalancing.rt": {"join"},
     "fc_tree_retain/src/filtering.rt": {"filter_own", "filter_between", "remove_behind", "take_last_of_thin", "take_last_of_loose"},
+    # items of an iterator, whose comparisons and moves nothing promises
+    "fc_map/src/map/extend.rt": {"put_next", "put_last"},
     # the set operations, whose comparisons of items of two sets nothing promises
     "fc_set/src/set.rt": {"order_of"},
 }
