@@ -24,6 +24,7 @@ UNCOUNTED = {
     # items that ascend, put behind the last, whose comparisons no contract tells of
     "fc_tree_build/src/growing.rt": {"is_behind"},
     "fc_map/src/map/bulk_insert.rt": {"is_behind"},
+    "fc_map/src/map/extend.rt": {"is_after_all"},
     "fc_tree_merge/src/merge.rt": {"step", "pass"},
     "fc_tree_merge/src/sorted.rt": {"by_key"},
     "fc_map/src/map/clones.rt": {"is_behind_all"},

@@ -82,16 +82,16 @@ fn a_refused_vector_comes_back_and_leaves_the_map(rt: HostRuntime) {
 // A number that is there, and two behind it, each with its threefold.
 fn few(alloc: Global) -> Result<Vec<(u64, u64)>, AllocError> {
     let mut items = Vec::with_capacity(alloc, 3)?;
-    for number in 199..202u64 {
+    for number in 259..262u64 {
         items.push((number, 3 * number))?;
     }
     Ok(items)
 }
 
-// Each request is refused in turn by the sweep. Three items go into a map of 200 by nodes that are reserved.
+// Each request is refused in turn by the sweep. Three items go into a map of 260 by nodes that are reserved.
 #[test]
 fn a_refused_vector_of_few_items_comes_back_and_leaves_the_map(rt: HostRuntime) {
-    let Ok(mut map) = multiples(rt.alloc(), 0, 200, 3) else {
+    let Ok(mut map) = multiples(rt.alloc(), 0, 260, 3) else {
         assert!(rt; !is_ample(rt.alloc()));
         return;
     };
@@ -100,22 +100,32 @@ fn a_refused_vector_of_few_items_comes_back_and_leaves_the_map(rt: HostRuntime) 
         return;
     };
     let is_right = match map.try_extend_from_vec(items) {
-        Ok(()) => has_multiples(&map, 202),
-        Err((items, TryReserveError::AllocError)) => items.len() == 3 && has_multiples(&map, 200),
+        Ok(()) => has_multiples(&map, 262),
+        Err((items, TryReserveError::AllocError)) => items.len() == 3 && has_multiples(&map, 260),
         Err(_other) => false,
     };
     assert!(rt; is_right);
 }
 
+// So many items come in descending order.
+const LOADED: u64 = 1_400;
+
+// Whether the map has each number with the place at which it came.
+fn has_descending(map: &Numbers) -> bool {
+    for place in 0..LOADED {
+        if !has(map, LOADED.wrapping_sub(place), place) {
+            return false;
+        }
+    }
+    map.len() as u64 == LOADED
+}
+
 // Each request is refused in turn by the sweep: where the sorted way is refused, the items that were gathered go in one by one.
 #[test]
 fn a_load_that_is_refused_a_request_loses_no_item(rt: HostRuntime) {
-    let Ok(items) = items(rt.alloc()) else {
-        assert!(rt; !is_ample(rt.alloc()));
-        return;
-    };
+    let items = (0..LOADED).map(|place| (LOADED.wrapping_sub(place), place));
     let is_right = match Numbers::try_from_iterator(rt.alloc(), items) {
-        Ok(map) => has_all(&map),
+        Ok(map) => has_descending(&map),
         Err(error) => matches!(error, TryReserveError::AllocError),
     };
     assert!(rt; is_right);

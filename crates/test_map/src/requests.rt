@@ -46,6 +46,6 @@ fn extends_in_order(alloc: Global, count: u64) -> Result<bool, TryReserveError> 
 }
 
 #[test]
-fn an_extension_by_170_in_order_asks_for_eleven_leaves_and_a_root(rt: HostRuntime) {
+fn an_extension_by_170_in_order_asks_for_19_leaves_and_three_inner_nodes(rt: HostRuntime) {
     assert!(rt; is_right(extends_in_order(rt.alloc(), 170)));
 }

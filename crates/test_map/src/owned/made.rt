@@ -90,7 +90,7 @@ fn an_extension_gives_up_keys_that_are_there_and_the_item_that_is_refused(rt: Ho
     assert!(rt; is_right(extends(rt.alloc())));
 }
 
-// Ascending items, for which nodes are opened and closed at the end of the tree.
+// Ascending items, which are put in at the end of the tree.
 fn extends_behind(alloc: Global) -> Result<bool, TryReserveError> {
     let mut map = owners(alloc, 0, 15, 1)?;
     let mut all = Vec::with_capacity(alloc, 20)?;
