@@ -1,5 +1,5 @@
 //! The items of an iterator or of a vector, put into a set, or made one.
-ghost use Rattle.std.specs.Prelude.{◌≡◌, ◌+◌, ◌<◌, ◌≤◌, ◌++◌, List, [], length, map, vec_capacity, IfOk, IfErr, OnOk, OnErr, IsOk, IsErr};
+ghost use Rattle.std.specs.Prelude.{◌≡◌, ◌+◌, ◌<◌, ◌≤◌, ◌++◌, List, [], length, map, vec_len, vec_capacity, IfOk, IfErr, OnOk, OnErr, IsOk, IsErr};
 ghost use Rattle.std.specs.Iterator.{IsFiniteIterable};
 ghost use Rattle.fc_base.specs.Growth.{append_error};
 ghost use Rattle.fc_map.specs.Entries.{IsSoundMap};
@@ -33,9 +33,14 @@ impl<T: Ord + Drop, A: Handle> BTreeSet<T, A> {
         for item in given {
             match for_sets::put_next(&mut self.map, &mut ascends, item, ()) {
                 Ok(()) => (),
-                Err(refused) => return Err(refused),
+                Err(refused) => {
+                    // Shows that the set is ascending and sound.
+                    let _len = self.len();
+                    return Err(refused);
+                }
             }
         }
+        let _len = self.len();
         Ok(())
     }
 
@@ -80,7 +85,7 @@ impl<T: Ord + Drop, A: Handle> BTreeSet<T, A> {
 // Moves the items, in their order, into pairs, for which there is room.
 fn pair_up<T: Drop, A: Handle>(items: &mut Vec<T, A>, pairs: &mut Vec<(T, ()), A>)
     requires none { pairs.old.items ≡ [] }
-    requires room { length items.old.items ≤ vec_capacity pairs.old }
+    requires room { vec_len items.old + vec_len pairs.old ≤ vec_capacity pairs.old }
     ensures pairs { map (λ e. e.0) pairs.new.items ≡ items.old.items }
     ensures none { items.new.items ≡ [] }
     ensures room { vec_capacity items.new ≡ vec_capacity items.old }
@@ -94,7 +99,7 @@ fn pair_up<T: Drop, A: Handle>(items: &mut Vec<T, A>, pairs: &mut Vec<(T, ()), A
 // Moves the keys of the pairs, in their order, into a list, which has room for them.
 fn take_keys<T: Drop, A: Handle>(pairs: Vec<(T, ()), A>, items: &mut Vec<T, A>)
     requires none { items.old.items ≡ [] }
-    requires room { length pairs.items ≤ vec_capacity items.old }
+    requires room { vec_len pairs ≤ vec_capacity items.old }
     ensures { items.new.items ≡ map (λ e. e.0) pairs.items }
 {
     for (item, _value) in pairs {

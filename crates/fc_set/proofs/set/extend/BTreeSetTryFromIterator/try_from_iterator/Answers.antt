@@ -1,8 +1,10 @@
-use Rattle.std.proofs.Common.{◌∷◌, ◌++◌, [], rules, refl}
+use Rattle.std.proofs.Common.{◌∷◌, ◌++◌, [], rules, refl, ap, ◌∙◌}
 use Rattle.fc_vec.proofs.ItemFacts.{yields_more}
-use Rattle.fc_map.proofs.LoadFacts.{all_gathered, loaded_more, stopped_after}
-use Rattle.fc_set.proofs.ItemFacts.{keys}
-use Rattle.fc_set.proofs.ExtendFacts.{keys_more, items_up_to, paired}
+use Rattle.fc_map.specs.Entries.{entries}
+use Rattle.fc_map.proofs.LoadFacts.{all_gathered, loaded_more, all_put, stopped_after, stopped_at}
+use Rattle.fc_set.specs.Items.{extended_items}
+use Rattle.fc_set.proofs.ItemFacts.{keys, ascending_keys}
+use Rattle.fc_set.proofs.ExtendFacts.{keys_more, keys_extended, items_up_to, paired}
 use Rattle.fc_set.proofs.set.extend.BTreeSetTryFromIterator.try_from_iterator.Goals as goal
 
 pub loop-item-init : goal.loop-item-init
@@ -21,13 +23,13 @@ loop-item-preserved g c =
       ),
     )
 
-pub returns-in-Err-try_put-clause-error : goal.returns-in-Err-try_put-clause-error
-returns-in-Err-try_put-clause-error g c =
+pub returns-in-Err-clause-error : goal.returns-in-Err-clause-error
+returns-in-Err-clause-error g c =
     let cmp = g.T.Ord.cmp in
     let item : g.row.T.Denot = c.in-Some.item in
     let done = c.loop-item.invariant.2 in
     let now = c.try_put.new.self.placed in
-    let error = c.in-Err-try_put.error in
+    let error = c.in-Err.error in
     let taken = yields_more g.I.IntoIter.Iterator.next_gives c.into_iter-item-iterator.result c.loop-item.item-iterator c.next.new.self c.loop-item.yielded
     item c.loop-item.yielded_by c.in-Some.ensures.steps in (
       c.loop-item.yielded ++ item ∷ [],
@@ -36,6 +38,36 @@ returns-in-Err-try_put-clause-error g c =
         keys now,
         λ rest. items_up_to cmp tt [] (done.0 ++ (item, tt) ∷ []) now (c.loop-item.yielded ++ item ∷ []) rest error
             (keys_more done.0 c.loop-item.yielded (item, tt) done.1)
-            (stopped_after cmp [] done.0 c.loop-item.load done.2 (item, tt) now error c.in-Err-try_put.ensures.error (paired tt rest)),
+            (stopped_after cmp [] done.0 c.loop-item.load done.2 (item, tt) now error c.in-Err.ensures.error (paired tt rest)),
+      ),
+    )
+
+pub returns-in-Ok-flush-clause-made : goal.returns-in-Ok-flush-clause-made
+returns-in-Ok-flush-clause-made g c =
+    let done = c.loop-item.invariant.2 in (
+      c.loop-item.yielded,
+      (
+        c.into_iter-item-iterator.result,
+        c.into_iter-item-iterator.ensures.into_iter_gives,
+        (c.next.new.self, (c.loop-item.item-iterator, c.loop-item.yielded_by, c.in-None.ensures.steps)),
+      ),
+      ap keys (all_put g.T.Ord.cmp [] done.0 c.loop-item.load done.2 (entries c.finish.result) (c.finish.ensures.pairs ∙ c.in-Ok-flush.ensures.all))
+          ∙ keys_extended g.T.Ord.cmp [] done.0 ∙ ap (extended_items g.T.Ord.cmp []) done.1,
+    )
+
+pub returns-in-Ok-flush-clause-ascending : goal.returns-in-Ok-flush-clause-ascending
+returns-in-Ok-flush-clause-ascending g c = ascending_keys g.T.Ord.cmp _ c.finish.ensures.ascending
+
+pub returns-in-Err-flush-clause-error : goal.returns-in-Err-flush-clause-error
+returns-in-Err-flush-clause-error g c =
+    let cmp = g.T.Ord.cmp in
+    let done = c.loop-item.invariant.2 in
+    let now = c.flush.new.self.placed in (
+      c.loop-item.yielded,
+      (c.into_iter-item-iterator.result, c.into_iter-item-iterator.ensures.into_iter_gives, c.loop-item.item-iterator, c.loop-item.yielded_by),
+      (
+        keys now,
+        λ rest. items_up_to cmp tt [] done.0 now c.loop-item.yielded rest c.in-Err-flush.error done.1
+            (stopped_at cmp [] done.0 c.loop-item.load done.2 (paired tt rest) now c.in-Err-flush.error (c.in-Err-flush.ensures.error (paired tt rest))),
       ),
     )
