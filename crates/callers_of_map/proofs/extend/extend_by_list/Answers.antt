@@ -4,6 +4,7 @@ use Rattle.std.proofs.lemmas.Result.{on_ok_weaker, IfErr-weaker}
 use Rattle.fc_base.specs.Extended.{extended, IsExtendedUpTo}
 use Rattle.fc_vec.proofs.ItemFacts.{all_given, front_given}
 use Rattle.fc_map.specs.Entries.{entries}
+use Rattle.callers_of_map.proofs.Stopped.{stopped_before}
 use Rattle.callers_of_map.proofs.extend.extend_by_list.Goals as goal
 
 pub returns-clause-all : goal.returns-clause-all
@@ -13,4 +14,5 @@ returns-clause-all g c = on_ok_weaker c.try_extend.result (λ w. w.2 ∙ ap (ext
 pub returns-clause-error : goal.returns-clause-error
 returns-clause-error g c = IfErr-weaker c.try_extend.result _ _ (λ e w. let f = front_given _ _ c.args.pairs.items _
     (YieldsList-from_vec {s = w.1.0} _ w.1.1.0 (w.1.1.1 ∙ c.args.pairs.ok.0)) w.1.2 w.1.3 in
-    subst (λ l. IsExtendedUpTo g.K.Ord.cmp (entries c.args.map.now) l (entries c.try_extend.new.self) e) f.1 (w.2 f.0)) c.try_extend.ensures.error
+    subst (λ l. IsExtendedUpTo g.K.Ord.cmp (entries c.args.map.now) l (entries c.try_extend.new.self) e) f.1
+    (stopped_before g.K.Ord.cmp (entries c.args.map.now) (entries c.try_extend.new.self) e w.0 f.0 w.2)) c.try_extend.ensures.error

@@ -4,7 +4,7 @@ use Rattle.std.proofs.lemmas.Iterator.Adapters.{YieldsList-from_vec}
 use Rattle.fc_base.specs.Extended.{extended, IsExtendedUpTo}
 use Rattle.fc_map.specs.Entries.{entries}
 use Rattle.fc_command.specs.Step.{answered, stopped}
-use Rattle.fc_command.proofs.ItemFacts.{given_all, given_front}
+use Rattle.fc_command.proofs.ItemFacts.{given_all, given_front, stopped_before}
 use Rattle.fc_command.proofs.command.world.extend.Goals as goal
 
 -- all were put in
@@ -23,7 +23,8 @@ returns-in-Ok g c o =
 pub returns-in-Err : goal.returns-in-Err
 returns-in-Err g c o =
     let steps = into_iter_steps {X = g.row.K.Denot × g.row.V.Denot} {Z = Global} in
+    let refusal = c.in-Err.ensures.error in
     let up_to = given_front steps into_iter_items (λ s t x step. step.0) _ c.args.pairs
     (λ all. IsExtendedUpTo g.K.Ord.cmp (entries c.args.map.now) all (entries c.try_extend.new.self) c.in-Err.e) (λ walk is. is.0 ∙ c.into_vec.ensures)
-    c.in-Err.ensures.error in
+    (stopped_before g.K.Ord.cmp (entries c.args.map.now) (entries c.try_extend.new.self) c.in-Err.e) (refusal.0, refusal.1, refusal.2) in
     stopped c.in-Err.e up_to (refl, refl)
