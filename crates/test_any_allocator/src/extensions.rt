@@ -11,8 +11,10 @@ const ORDERS: u64 = 6;
 
 const SIZES: [u64; 10] = [1, 15, 16, 31, 100, 257, 300, 400, 801, 1_302];
 
-// A prime that divides no size.
+// Multiples of the one come all over below the other, a prime that no size passes.
 const JUMP: u64 = 769;
+
+const PRIME: u64 = 1_303;
 
 // The number at a place of so many, in an order: ascending, descending, all over, in two runs, with one in a hundred out of place, or each one twice.
 fn number_at(order: u64, size: u64, place: u64) -> u64 {
@@ -20,8 +22,9 @@ fn number_at(order: u64, size: u64, place: u64) -> u64 {
     match order {
         0 => place,
         1 => back,
-        2 => place.wrapping_mul(JUMP) % size,
-        3 => place.wrapping_mul(2) % (size | 1),
+        2 => place.wrapping_mul(JUMP) % PRIME,
+        3 if place < size / 2 => place.wrapping_mul(2),
+        3 => place.wrapping_sub(size / 2).wrapping_mul(2).wrapping_add(1),
         4 if place % 100 == 99 => back,
         4 => place,
         _ => place.wrapping_mul(JUMP) % (size / 2 + 1),
