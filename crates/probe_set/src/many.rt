@@ -6,7 +6,8 @@ use fc_set::set::BTreeSet;
 use fc_vec::TryFromIterator;
 use std::alloc::AllocError;
 
-// Extends our set by the numbers of the word, which are its digits where it names no range; or makes a set of them in the place of theirs.
+// Extends our set by the numbers of the word, which are its digits where it names no range, or by a vector of them; or makes a set of them in the place of
+// theirs.
 pub(crate) fn give<'a>(sets: &mut Sets<'a>, name: &str, word: &str, out: &mut Out) {
     let Ok(items) = items_in(sets, word) else {
         return out.word("refused");
@@ -14,6 +15,8 @@ pub(crate) fn give<'a>(sets: &mut Sets<'a>, name: &str, word: &str, out: &mut Ou
     if name == "made" {
         let made = BTreeSet::try_from_iterator(sets.alloc, items);
         sets.keep(made, out);
+    } else if name == "extend_vec" {
+        extend_from_vec(sets, items, numbers_in(word), out);
     } else if let Err(e) = sets.ours.try_extend(items) {
         out.stopped(e);
         out.word("at");
@@ -21,6 +24,41 @@ pub(crate) fn give<'a>(sets: &mut Sets<'a>, name: &str, word: &str, out: &mut Ou
     } else {
         out.word("done");
     }
+}
+
+// Extends our set by the vector, which comes back whole where it is refused.
+fn extend_from_vec<'a>(
+    sets: &mut Sets<'a>,
+    items: Vec<Item<'a>>,
+    numbers: Option<Numbers>,
+    out: &mut Out,
+) {
+    match sets.ours.try_extend_from_vec(items) {
+        Ok(()) => out.word("done"),
+        Err((back, e)) => {
+            out.refused(e);
+            if !are_in_range(&back, numbers) {
+                out.word("lost");
+            }
+        }
+    }
+}
+
+// Whether these are the items of `in_range`.
+fn are_in_range(items: &Vec<Item<'_>>, numbers: Option<Numbers>) -> bool {
+    let Some(numbers) = numbers else {
+        return false;
+    };
+    let count = numbers.end.saturating_sub(numbers.first);
+    let mut turn = 0u64;
+    for item in items {
+        let place = item.counted.number.wrapping_sub(numbers.first);
+        if turn >= count || place != turn.wrapping_mul(numbers.step) % count {
+            return false;
+        }
+        turn = turn.wrapping_add(1);
+    }
+    turn == count
 }
 
 fn items_in<'a>(sets: &Sets<'a>, word: &str) -> Result<Vec<Item<'a>>, AllocError> {

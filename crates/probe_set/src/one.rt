@@ -8,7 +8,7 @@ use fc_set::set::BTreeSet;
 
 // Answers for one word of a row: numbers, or an item.
 pub(crate) fn one_word<'a>(sets: &mut Sets<'a>, name: &str, word: &str, out: &mut Out) {
-    if name == "extend" || name == "made" {
+    if name == "extend" || name == "extend_vec" || name == "made" {
         many::give(sets, name, word, out);
     } else if let Some(numbers) = numbers_in(word) {
         match name {

@@ -79,9 +79,12 @@ fn a_refused_vector_comes_back_and_leaves_the_map(rt: HostRuntime) {
     assert!(rt; is_right);
 }
 
-// A number that is there, and two behind it, each with its threefold.
+// A number that is there, and two behind it, each with its threefold. Room that is refused is asked for once more.
 fn few(alloc: Global) -> Result<Vec<(u64, u64)>, AllocError> {
-    let mut items = Vec::with_capacity(alloc, 3)?;
+    let mut items = match Vec::with_capacity(alloc, 3) {
+        Ok(room) => room,
+        Err(_refused) => Vec::with_capacity(alloc, 3)?,
+    };
     for number in 259..262u64 {
         items.push((number, 3 * number))?;
     }
