@@ -5,18 +5,21 @@ use Rattle.std.specs.List.{AllByRecursion}
 use Rattle.std.specs.Option.{option_map}
 use Rattle.std.specs.declared.cmp.Ordering.{Ordering}
 use Rattle.std.specs.declared.cmp.Ordering.TheVariants.{Less, Greater}
-use Rattle.std.proofs.lemmas.List.{nil_from_length}
+use Rattle.std.proofs.lemmas.List.{nil_from_length, length-drop}
+use Rattle.std.specs.Prelude.{slice_index, drop}
 use Rattle.std.specs.Cmp.Lexicographic.{pointwise, other_text}
 use Rattle.fc_base.specs.Sizes.{capacity}
 use Rattle.fc_tree_node.specs.declared.node.Node.{Node}
-use Rattle.fc_tree_node.specs.Node.{child_at, pairs_of, IsTree}
+use Rattle.fc_tree_node.specs.Leaf.{leaf_at}
+use Rattle.fc_tree_node.specs.Node.{own_pairs, child_at, pairs_of, IsTree}
+use Rattle.fc_tree_node.specs.Weave.{after_list}
 use Rattle.fc_tree_node.specs.LeafGap.{IsLeafGap}
 use Rattle.fc_tree_node.specs.Path.{IsPath, before_gap, after_gap}
 use Rattle.fc_tree_node.specs.Place.{IsPlace, before_pair, after_pair}
 use Rattle.fc_tree_node.proofs.Gaps.{gap_pairs, place_pairs, take_item}
 use Rattle.fc_tree_node.proofs.Lists.{all_front, length_take}
 use Rattle.fc_map.specs.Entries.{Map, entries, IsSoundMap}
-use Rattle.fc_map.specs.Place.{IsOpenAt}
+use Rattle.fc_map.specs.Place.{IsOpenAt, TellsRoom}
 use Rattle.fc_tree_cursor.specs.Gap.{IsGapIn, AreEndsIn, zeros}
 use Rattle.fc_tree_search.specs.Written.{set_value}
 use Rattle.fc_map.specs.Writing.{Stretch, wrote_first, wrote_last}
@@ -36,6 +39,16 @@ take_lead (x ∷ p) ys (suc k) h = ap (λ q. x ∷ q) (take_lead p ys k (omega a
 -- the steps of a path to a pair, by the gap after the pair
 branch_past : (p next rest : List ℕ) (last place : ℕ) → last < length p → next ≡ take last p ++ rest → branch next last place ≡ take last p ++ place ∷ []
 branch_past p next rest last place h is = ap (λ q. take last q ++ place ∷ []) is ∙ ap (λ q. q ++ place ∷ []) (take_lead p rest last (omega arith))
+
+-- what stands after no pair is nothing
+none_behind : {X : Type 0} (ps : List X) (cs : List (List X)) → after_list ps cs ≡ [] → ps ≡ []
+none_behind [] cs e = refl
+none_behind (p ∷ ps) [] e = absurd cc
+none_behind (p ∷ ps) (c ∷ cs) e = absurd cc
+
+both_none : {X : Type 0} (a b : List X) → a ++ b ≡ [] → (a ≡ []) × (b ≡ [])
+both_none [] b e = (refl, e)
+both_none (x ∷ a) b e = absurd cc
 
 -- a pair of its leaf lies after a gap
 pub record IsInLeaf (path : List ℕ) (gone : ℕ) : Type 0 where
@@ -74,6 +87,30 @@ module _ {K V : Type 0} where
           front = all_front (λ e. cmp e.0 k ≡ Less) (before_gap gap root) (after_gap gap root) (subst (AllByRecursion (λ e. cmp e.0 k ≡ Less)) parts below);
           back = subst (AllByRecursion (λ e. cmp e.0 k ≡ Greater)) (sym none) tt;
         }
+
+    -- a path that leads behind all pairs ends behind those of its leaf
+    last_step : (k i : ℕ) (path : List ℕ) (n : Node K V Z) → k ≡ length path → IsPath (i ∷ path) n → after_gap (i ∷ path) n ≡ []
+        → slice_index (i ∷ path) k ≡ length (own_pairs (leaf_at (i ∷ path) n))
+    last_step zero i [] n e p none =
+        let rest = ap length (none_behind (drop i (own_pairs n)) _ none) in
+        let long = length-drop i (own_pairs n) in
+        omega (arith, rest, long, p.0)
+    last_step zero i (j ∷ path) n e p none = absurd (omega arith)
+    last_step (suc k) i [] n e p none = absurd (omega arith)
+    last_step (suc k) i (j ∷ path) n e p none = last_step k j path (child_at n i) (omega arith) p.1 (both_none _ _ none).0
+
+    -- so its last step tells whether that has room
+    pub room_at_end : (m : Map K V Z) (gap : List ℕ) (last : ℕ) → IsSoundMap m → IsGapIn m gap → length (before_gap_in m gap) ≡ length (entries m)
+        → last + 1 ≡ length gap → slice_index gap last < capacity → TellsRoom true gap m
+    room_at_end None gap last sound s all e room = absurd (let z = ap length s in omega arith)
+    room_at_end (Some root) [] last sound s all e room = absurd (omega arith)
+    room_at_end (Some root) (i ∷ path) last sound s all e room =
+        let h = sound.0 in
+        let l = sound.2.1 in
+        let parts = ap length (gap_pairs (i ∷ path) h root l (s.1 h l) s.0) ∙ length-append (before_gap (i ∷ path) root) (after_gap (i ∷ path) root) in
+        let none : after_gap (i ∷ path) root ≡ [] = nil_from_length (after_gap (i ∷ path) root) (omega (arith, parts, all)) in
+        let is = last_step last i path root (omega arith) s.0 none in
+        (λ _. subst (λ k. k < capacity) is room, λ _. refl)
 
     -- where a pair lies before a gap, all gaps are gaps of leaves
     pub gap_some : (m : Map K V Z) (gap other : List ℕ) → IsSoundMap m → IsGapIn m gap → 0 < length (before_gap_in m other) → 0 < length gap

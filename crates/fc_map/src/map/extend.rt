@@ -15,6 +15,7 @@ use super::BTreeMap;
 use super::bulk_load::BulkLoad;
 use fc_base::{Count, Handle, TryReserveError};
 use fc_tree_cursor::ends::last_gap_in;
+use fc_tree_node::node::CAPACITY;
 use fc_vec::TryFromIterator;
 use std::alloc::Global;
 
@@ -80,6 +81,12 @@ impl<K: Ord + Drop, V: Drop, A: Handle> BTreeMap<K, V, A> {
         ensures error { IfErr result (λ e. MayGrowRefuse (length (entries self.old)) e) }
     {
         let mut path = last_gap_in(&self.root);
+        let len = path.len();
+        if len > 0 && path.step(len - 1) < CAPACITY && self.len < usize::MAX {
+            let pair = (key, value);
+            self.insert_in_room(&path, pair, &mut Count::new());
+            return Ok(());
+        }
         self.put_growing(&mut path, key, value, &mut Count::new())
     }
 }
