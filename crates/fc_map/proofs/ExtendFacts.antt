@@ -1,6 +1,6 @@
 -- A list extended by items, one after another.
 use Rattle.std.proofs.Common.{◌≡◌, List, [], ◌∷◌, ◌++◌, Some, None, cond, length, inl, inr, refl, sym, ap, subst, ◌∙◌, arith}
-use Rattle.std.proofs.Common.{append_assoc, append-nil, length-append, ℕ, ◌+◌, ◌-◌, ◌^◌, ◌≤◌, ◌⊎◌, Bool, false, IsTrue, Option, Result, Ok, Err, ◌↔◌}
+use Rattle.std.proofs.Common.{append_assoc, append-nil, length-append, ℕ, ◌-◌, ◌^◌, ◌≤◌, ◌⊎◌, Bool, false, IsTrue, Option, Result, Ok, Err, ◌↔◌}
 use Rattle.std.specs.Bool.{if◌then◌else◌}
 use Rattle.std.specs.Result.{IfOk, IfErr}
 use Rattle.std.specs.Prelude.{IfSome}
