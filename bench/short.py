@@ -61,8 +61,9 @@ JOBS = [
     [
         ("map", "pair", CONSTANT, "iter; iter from both ends; range of all; values_mut().for_each; retain"),
         ("map", "once", LEVELS, "split_off of ten; append of ten; split_off of all but ten; append of all but ten"),
-        ("map", "pair", CONSTANT, "try_clone; eq; try_from_iterator, ascending; try_extend, ascending"),
-        ("map", "pair", SPLITS, "try_from_iterator, in no order"),
+        ("map", "pair", CONSTANT, "try_clone; eq; try_from_iterator, ascending"),
+        ("map", "pair", LEVELS, "try_extend, ascending"),
+        ("map", "pair", SPLITS, "try_from_iterator, in no order; try_extend_from_vec, in no order"),
         ("map", "pair", CONSTANT, "clear"),
     ],
     [

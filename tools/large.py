@@ -289,18 +289,24 @@ def compare(program, n, given, wanted, *words):
     return is_right
 
 
-# The loads: a program, its row, and what stands before an answer. One that loads a list into what is there belongs here too.
-LOADS = ("probe_map", f"make {LOADED} {JUMP}", ": "), ("probe_set", f"made 0..{LOADED}/{JUMP}", " -> ")
+# The loads, of an iterator's items and of a vector's: a program, its row, what stands before an answer, and a key's comparisons beside its halvings.
+LOADS = (
+    ("probe_map", f"make {LOADED} {JUMP}", ": ", 2),
+    ("probe_map", f"extend_vec {LOADED} {JUMP}", ": ", 3),
+    ("probe_set", f"made 0..{LOADED}/{JUMP}", " -> ", 2),
+    ("probe_set", f"extend_vec 0..{LOADED}/{JUMP}", " -> ", 3),
+)
 
 
-def counted(folder, program, load, sign):
+def counted(folder, program, load, sign, beside):
     """Whether a load makes no more requests and comparisons than one that sorts its keys.
 
     A merge sort compares a key once for each time that their number can be halved; then it may be compared with the one before it, and with one of a smaller
-    tree. A tree of full nodes makes the fewest requests; two fifths more serve the lists of keys, and such smaller trees."""
+    tree. std's sort takes about one more a key for its short runs, which shows where one sort has all keys. A tree of full nodes makes the fewest requests; two
+    fifths more serve the lists of keys, and such smaller trees."""
     ran = judge.Program(TOP / f"crates/{program}/out/{program}", folder).run(judge.Case([load.encode(), b"comparisons"]))
     compared = ran.replies[-1].split(sign)[-1] if ran.replies else ""
-    requests, comparisons = judge.requests_of_copy(LOADED)[0] * 7 // 5, LOADED * (LOADED.bit_length() + 2)
+    requests, comparisons = judge.requests_of_copy(LOADED)[0] * 7 // 5, LOADED * (LOADED.bit_length() + beside)
     is_done = (ran.replies, ran.status, ran.kept) == ([f"{load}{sign}done", f"comparisons{sign}{compared}"], 0, "0")
     is_right = is_done and ran.requests <= requests and int(compared) <= comparisons
     said = f"{ran.requests} requests of {requests}, {compared} comparisons of {comparisons}"

@@ -1,11 +1,11 @@
 //! Calls on a whole map.
 use super::reads::{Map, made, shuffled};
-use super::{key_at, mark, mixed};
+use super::{key_at, mark, mixed, place};
 use fc_base::{TryClone, TryReserveError};
 use std::alloc::Global;
 use std::mem::ManuallyDrop;
 
-const WAYS: u64 = 15;
+const WAYS: u64 = 16;
 
 // So many pairs are cut off.
 const FEW: u64 = 10;
@@ -65,6 +65,17 @@ fn extended(alloc: Global, pairs: u64) -> Result<u64, TryReserveError> {
     Ok(leak(map))
 }
 
+// Items in no order, of a vector that is made first.
+fn extended_from_vec(alloc: Global, pairs: u64) -> Option<u64> {
+    let mut items = Vec::with_capacity(alloc, pairs as usize).ok()?;
+    for turn in 0..pairs {
+        items.push((key_at(place(turn, pairs)), turn)).ok()?;
+    }
+    let mut map = Map::new(alloc);
+    map.try_extend_from_vec(items).ok()?;
+    Some(leak(map))
+}
+
 // What is from the key on goes into the other map.
 fn cut(map: &mut Map, other: &mut Map, key: u64) -> bool {
     match map.split_off(&key) {
@@ -104,7 +115,8 @@ fn run(alloc: Global, map: &mut Map, other: &mut Map, way: u64, pairs: u64) -> u
         11 => leaked(made(alloc, pairs)),
         12 => extended(alloc, pairs).unwrap_or(0),
         13 => leaked(shuffled(alloc, pairs)),
-        14 => {
+        14 => extended_from_vec(alloc, pairs).unwrap_or(0),
+        15 => {
             map.clear();
             0
         }
