@@ -1,6 +1,6 @@
 -- A map that is extended fits in memory, whatever its allocator.
 use Rattle.std.proofs.Common.{◌^◌, ◌<◌, ◌≤◌, arith}
-use lib.Dec.{lit<, lit≤}
+use lib.Dec.{lit<}
 use denote.RattleType.{RattleType}
 use denote.Param.{layout, copied}
 use mir.Syntax.{Ty, tcons, ty_struct}
@@ -13,7 +13,6 @@ use Rattle.std.specs.Mem.{type_size}
 use Rattle.fc_tree_node.specs.contracts.node.Node as node
 use Rattle.fc_tree_drain.proofs.Sizes.{Shape, whole, most, part, list_shape, maybe_shape, node_shape, nodes_shape, bound_holds, below}
 use Rattle.fc_map.specs.contracts.map.bulk_insert.BulkInsert as bulk_insert
-use Rattle.fc_map.specs.contracts.map.bulk_load.BulkLoad as bulk_load
 
 -- The first field of a struct.
 abbrev first_field : Ty → Ty
@@ -35,20 +34,8 @@ map_shape = part (maybe_shape node_shape) (part whole (part (most 65536) whole))
 abbrev bulk_insert_shape : Shape
 bulk_insert_shape = part growing_shape (part map_shape whole)
 
--- A vector's fields: each is a word, or the allocator's handle.
-abbrev vector_shape : Shape
-vector_shape = part (most 65536) (part (most 65536) (part (most 65536) (part (most 65536) whole)))
-
-abbrev bulk_load_shape : Shape
-bulk_load_shape = part bulk_insert_shape (part vector_shape whole)
-
 module _ (K V A : RattleType) (g : ord.Ghosts K.Denot) (g' : eq.Ghosts K.Denot) (g'' : partial.Ghosts K.Denot) (heap : Ghosts A.Denot) where
   pub bulk_insert_fits : type_size A < 65536 → size (layout (bulk_insert.the_row K V (copied 2 A) g g' g'' heap)) < 2 ^ 63
   bulk_insert_fits h =
       let low : type_size A ≤ 65536 = omega arith in
       below (bound_holds bulk_insert_shape (layout (bulk_insert.the_row K V (copied 2 A) g g' g'' heap)) (search (low, tt) depth 40)) (lit< tt)
-
-  pub bulk_load_fits : type_size A < 65536 → size (layout (bulk_load.the_row K V (copied 2 A) g g' g'' heap)) < 2 ^ 63
-  bulk_load_fits h =
-      let low : type_size A ≤ 65536 = omega arith in
-      below (bound_holds bulk_load_shape (layout (bulk_load.the_row K V (copied 2 A) g g' g'' heap)) (search (low, tt, lit≤) depth 40)) (lit< tt)
