@@ -9,15 +9,14 @@ use super::BTreeMap;
 use fc_base::{Handle, TryReserveError};
 use fc_tree_merge::sorted::try_merge;
 
-// Into a map of more than so many times as many pairs, items go one by one, by reserved nodes: these then take no more memory than a new tree does,
-// and the insertions no more time.
+// Into a map of more than so many times as many pairs, items go one by one, by reserved nodes: a merge would make all nodes anew for few items.
 const SPARSE: usize = 64;
 
 impl<K: Ord + Drop, V: Drop, A: Handle> BTreeMap<K, V, A> {
     /// Puts all items of a vector into the map, in turn, or none of them: where an equal key is there, that key stays, with the last value. The
     /// items are sorted and merged with the pairs into a new tree: at once there are then beside the pairs the nodes of a tree of all pairs and
     /// items, and room for as many items again to sort them. Where there are more than 64 times as many pairs as items, these go in one by
-    /// one, by nodes that are reserved first (`try_reserve_nodes`). Of no items nothing is asked for. Not in upstream.
+    /// one, by nodes that are reserved first, for each a node at each level (`try_reserve_nodes`). Of no items nothing is asked for. Not in upstream.
     ///
     /// # Errors
     /// `CapacityOverflow` where the pairs and the items together pass `usize::MAX`, and then always; else `AllocError`, where a request for
