@@ -15,9 +15,9 @@ use std::alloc::Global;
 
 impl<T: Ord + Drop, A: Handle> BTreeSet<T, A> {
     /// Puts all items that the iterator gives into the set, each as `try_insert` does before the next is taken: an equal item that is there
-    /// stays. It asks for what insertions ask for. An item after all before it, those of the set too, takes one comparison. Many items
-    /// of a vector, in any order, go in faster by `try_extend_from_vec`. Upstream: `BTreeSet::extend`, which panics where this call answers an
-    /// error.
+    /// stays. It asks for what insertions ask for. An item after all before it, those of the set too, takes one comparison, as long as each
+    /// before it did. Many items of a vector, in any order, go in faster by `try_extend_from_vec`. Upstream: `BTreeSet::extend`, which panics
+    /// where this call answers an error.
     ///
     /// # Errors
     /// At the first item that `try_insert` refuses, which is new, with that error. The items before it stay in the set, it is dropped, and no
