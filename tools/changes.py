@@ -4,8 +4,8 @@
   tools/changes.py [OLD [NEW]]   what was added, is gone, or has another signature or clause, with both texts, as CHANGELOG.md lists it; OLD: the commit of the
                               newest entry of CHANGELOG.md; NEW: the files that are here
   tools/changes.py --check       (the gate) looks that each entry of CHANGELOG.md has its version and its commit, newest first, that the newest one's commit is behind
-                              this one, and that a section `## Unreleased` above it names all that is another since then. Where that commit is not in the
-                              repository, or there is no repository, nothing is compared, which is told
+                              this one, and that a section `## Unreleased` above it names all that is another since then, and the version that this raises.
+                              Where that commit is not in the repository, or there is no repository, nothing is compared, which is told
 
 Public is what `fallible_collections` hands on, and what the budgets and `fc_memory` do. A call is named by its type or trait, and what a trait's ghost members
 state of a type by both names. A changed definition is listed where a public clause names it, or what a public clause names stands on it; whether a clause is
@@ -25,6 +25,8 @@ from surface import NOT_CALLED, Call, Surface, head_of, plain
 TOP = pathlib.Path(__file__).resolve().parent.parent
 BESIDE = ("fc_budget", "fc_shared_budget", "fc_memory")
 TAKEN = re.compile(r"crates/(fc_\w+|fallible_collections)/(src/.*\.rt|specs/.*\.antt|proofs/[^/]*\.antt)")
+VERSION = re.compile(r"(?m)^## (\d+)\.(\d+)\.(\d+)-(\d+)$")
+NEXT = re.compile(r"(?m)^It will be (\d+\.\d+\.\d+-\d+)\.$")  # tools/release.py reads it too
 COMMIT = re.compile(r"(?m)^The tag is this commit: `([0-9a-f]{40})`")
 DEFINED = re.compile(r" *(?:abbrev )?pub (?:record |data )?([A-Za-z][\w']*)")
 
@@ -285,6 +287,12 @@ def breaks(changes):
     return bool(changes.gone or signed or weaker or changes.definitions or any(names for what, names in changes.laws if what != "added"))
 
 
+def raised(text, changes):
+    """The version that comes after that of CHANGELOG.md's newest entry."""
+    first, middle, last, behind = (int(it) for it in VERSION.search(text).groups())
+    return f"{first}.{middle + 1}.0-1" if breaks(changes) else f"{first}.{middle}.{last}-{behind + 1}"
+
+
 def report(changes):
     """The lists of what differs, as CHANGELOG.md has them."""
     sections = [
@@ -296,8 +304,8 @@ def report(changes):
         ("Laws for callers", [wrapped(f"{what}: " + ", ".join(f"`{it}`" for it in names)) for what, names in changes.laws if names]),
     ]
     kept = [f"### {title}\n\n" + "\n".join(lines).rstrip() + "\n" for title, lines in sections if lines]
-    raised = "raises the middle part" if breaks(changes) else "raises the last number alone"
-    return "\n".join(["## Unreleased\n", f"This {raised}.\n" if kept else "Nothing of the public surface changed.\n", *kept])
+    raises = "raises the middle part" if breaks(changes) else "raises the last number alone"
+    return "\n".join(["## Unreleased\n", f"This {raises}.\n" if kept else "Nothing of the public surface changed.\n", *kept])
 
 
 def names_changed(changes):
@@ -349,9 +357,12 @@ def check():
         return ([], "not compared: this clone is shallow") if shallow else ([f"CHANGELOG.md: commit {commit[:8]} of its newest entry is not behind this one"], "")
     if git("diff", "--quiet", commit, "--", "crates") is not None:
         return [], ""
-    pieces = re.split(r"\n(?=- )|\n\n", text.partition("\n## Unreleased\n")[2].partition("\n## ")[0])
-    missing = [it for it in names_changed(compared(state_at(commit), state_at(""))) if not is_named(it, pieces)]
-    return [f"CHANGELOG.md: `## Unreleased` does not name {name_of(it)}, which is another since {commit[:8]}: see tools/changes.py {commit[:8]}" for it in missing], ""
+    section, changes = text.partition("\n## Unreleased\n")[2].partition("\n## ")[0], compared(state_at(commit), state_at(""))
+    pieces = re.split(r"\n(?=- )|\n\n", section)
+    missing = [it for it in names_changed(changes) if not is_named(it, pieces)]
+    wrong = [f"CHANGELOG.md: `## Unreleased` does not name {name_of(it)}, which is another since {commit[:8]}: see tools/changes.py {commit[:8]}" for it in missing]
+    version = raised(text, changes)
+    return wrong + [f"CHANGELOG.md: `## Unreleased` has no line 'It will be {version}.', which the changes since {commit[:8]} make it"] * (NEXT.findall(section) != [version]), ""
 
 
 def main(words):

@@ -22,7 +22,8 @@ What a trait or an impl block states beside its functions with a body is one ite
 that it ensures. A size that specs/Sizes.antt names counts as its number. An edit was tried over what is there as long as each item that may matter to it is
 there still; one that was added beside it makes no refused goal true. A body is proved by what it calls, and by what its clauses and theirs mean. So to an
 edit matter the functions whose names are words of its text or of the functions that it changes, and of all else what these, and what matters, name: types,
-with what impls of std's traits state for them, traits, constants and definitions. What has no such name, as an operator, matters to each.
+with what impls of std's traits state for them, traits, constants and definitions. A definition of another file is named by an import of it, one of the same
+file by a word; a type by a word where its crate is named too, or in that crate. What has no such name, as an operator, matters to each.
 Of each edit it holds a checksum of its text, one of the functions that it changes, without comments, gaps and what they ensure, and the function and the
 goal at which it was refused. A line is 'refused EDIT TEXT FUNCTIONS FUNCTION GOAL' or 'stated CRATE ITEM', sorted.
 No line says over which of the items its edit was tried: where two branches tried edits of a crate, each over clauses of its own, a merge of both records would
@@ -55,8 +56,8 @@ MARK = re.compile(TEXTS + r"|[][(){};]|" + CLAUSE, re.S)
 IN_CLAUSE = re.compile(r'"(?:\\.|[^"\\])*"|[{};]')
 # The most edits of one check, whose room for terms a larger number filled.
 MOST = 16
-# The most edits that may wait for their trial, in all crates: a change tries its own before it is done. So many wait now, and 25 are to.
-MOST_WAITING = 189
+# The most edits that may wait for their trial, in all crates: a change tries its own before it is done.
+MOST_WAITING = 25
 # Each longer function of the library has a wrong body, but for these.
 SHORT = 10
 EXCUSED = {
@@ -364,21 +365,69 @@ class Statements:
 
 
 
-def is_named(told, code, words):
-    """Whether these words call a function, by its name and that of its type, or name something else, a definition by its file too, as a record tells of it."""
-    owner, _, called = told.removesuffix("()").rpartition(".")
-    return called in (code if told.endswith("()") else words) and (not owner or owner in words)
+def brought(text):
+    """The definitions that use lines bring, each as its crate, its file and its name, with * for all of a file; and the text without these lines. Those on
+    modules that the toolchain makes of types and functions stay in it, as words."""
+    found, left = set(), []
+    for line in text.split("\n"):
+        said = line[line.find("use pub use ") + 4 :].removesuffix(" as *") if line.startswith("use pub use ") else line
+        tree = re.match(r"(?:pub )?use (Rattle\..*)", said)
+        if not tree or re.search(r"\.specs(\.|::)(declared|contracts|formers)\b", said):
+            left.append(line)
+            continue
+        for _, path in imports(tree[1].replace(".{", "::{")):
+            parts = re.split(r"::|\.", path.partition(" as ")[0])
+            found |= {(parts[1], parts[-2], parts[-1]), (parts[1], parts[-1], "*")}
+    return found, "\n".join(left)
 
 
-def reached(code, items):
-    """The words that call functions, these and others, and those that name what else matters, where these words stand in a body."""
-    words, items, found = code, {it for it in items if it.names}, {it for it in items if not it.names}
+class Reach:
+    """What a body rests on, as far as names tell: the words that call functions, all words, those that may name what is of a crate, the definitions that
+    were brought by name, the words of each file of definitions that matters, and the crates that are named."""
+
+    def __init__(self, crate, code, brings):
+        self.code, self.words, self.brings, self.of, self.files, self.crates = {*code}, {*code}, {*brings}, {}, {}, {crate} | code
+        self.items = set()
+        self.adds(crate, code)
+
+    def adds(self, crate, words):
+        """Adds words of a crate, or of others that stand among them: what names a type of another crate brings it by the crate's name."""
+        self.words |= words
+        for it in {crate} | words & Crate.known.keys():
+            self.of.setdefault(it, set()).update(words)
+
+    def takes(self, items):
+        """Adds what these items name."""
+        for it in items:
+            self.adds(it.crate, it.words)
+            self.brings |= it.brings
+            if it.file:
+                self.files.setdefault((it.crate, it.file), set()).update(it.words)
+            if it.kind == "use":  # (what is handed on may have another name there)
+                self.code |= it.last
+                self.crates |= it.words
+        self.words |= self.code
+        self.items |= items
+
+    def names(self, crate, name):
+        """Whether it names this of a crate: a function by its name and that of its type, or else by its crate; a definition by its file; a type by its crate."""
+        owner, _, called = name.removesuffix("()").rpartition(".")
+        if name.endswith("()"):
+            return called in self.code and (owner in self.words if owner else crate in self.crates)
+        if not owner:  # (what implements a trait goes by its name, in whatever crate)
+            return called in (self.words if called in Crate.traits() else self.of.get(crate, ()))
+        return (crate, owner, called) in self.brings or called in self.files.get((crate, owner), ()) or ((crate, owner, "*") in self.brings and called in self.words)
+
+
+def reached(crate, code, brings, items):
+    """All that matters to bodies of a crate in which these words stand and these definitions are brought."""
+    reach, found = Reach(crate, code, brings), {it for it in items if not it.names}
+    items = {it for it in items if it.names}
     while found:
-        code = code.union(*(it.words for it in found if it.kind == "use"))  # (what is handed on may have another name there)
-        words = words.union(code, *(it.words for it in found))
-        found = {it for it in items if any(is_named(name, code, words) for name in it.names)}
+        reach.takes(found)
+        found = {it for it in items if any(reach.names(it.crate, name) for name in it.names)}
         items = items - found
-    return code, words
+    return reach
 
 
 class Item:
@@ -394,10 +443,13 @@ class Item:
             names = {f"{owner}.{it}()".removeprefix(".") for it in names}
         elif kind == "is" and of_type:
             names = {trait or owner} - {""}
-        file = {pathlib.Path(path).stem} if path.startswith("specs/") else set()
-        self.kind, self.names, self.crate = kind, {f"{it}.{name}" for name in names for it in file} or names, crate
+        self.file = pathlib.Path(path).stem if path.startswith("specs/") else ""
+        self.kind, self.names, self.crate = kind, {f"{self.file}.{name}" for name in names} if self.file else names, crate
         # The name of a function is no call of it, nor is that of a trait in an impl of it.
-        self.words = words_of(re.sub(r"\bfn \w+", "fn", rest)) | file
+        self.brings, said = brought(re.sub(r"\bfn \w+", "fn", rest))
+        self.words = words_of(said)
+        # The names by which something is handed on.
+        self.last = {it for it in re.findall(r"(\w+) as \w+$", text, re.M)} if kind == "use" else set()
         self.told = ":".join([*sorted(self.names)[:1], short_sum(f"{path}\n{text}")])
 
 
@@ -448,12 +500,15 @@ class Crate:
         return [it for name in sorted(self.below()) for it in Crate.known[name].items()]
 
     def changed(self, stated):
-        """The crates that no longer state all that has no name and one of these checksums, and the names of what else is not there as it was."""
+        """The crates that no longer state all that has no name and one of these checksums, and what else is not there as it was: each a crate and a name."""
         now = {}
         for it in self.all_items():
             now.setdefault(it.crate, set()).add(it.told)
         gone = {crate: told - now.get(crate, set()) for crate, told in stated.items()}
-        names = {it.partition(":")[0] for told in gone.values() for it in told if ":" in it}
+        names = {(crate, it.partition(":")[0]) for crate, told in gone.items() for it in told if ":" in it}
+        # (a definition goes by the first of its names, and may have lost that)
+        files = {(crate, name.partition(".")[0]) for crate, name in names if "." in name and not name.endswith("()")}
+        names |= {(it.crate, name) for it in self.all_items() if (it.crate, it.file) in files and it.told not in stated[it.crate] for name in it.names}
         return sorted(crate for crate, told in gone.items() if any(":" not in it for it in told)), names
 
     def edits(self, part="edits"):
@@ -468,8 +523,8 @@ class Crate:
 
     def write(self, refused):
         items = self.all_items()
-        code, words = reached(set().union(*(it.words() for it in self.edits())), items)
-        matters = [it for it in items if not it.names or any(is_named(name, code, words) for name in it.names)]
+        words = [it.words() for it in self.edits()]
+        matters = reached(self.name, set().union(*(it[0] for it in words)), set().union(*(it[1] for it in words)), items).items
         lines = {f"stated {it.crate} {it.told}\n" for it in matters} | {f"refused {name} {' '.join(it)}\n" for name, it in refused.items()}
         if refused:
             self.record.write_text("".join(sorted(lines)))
@@ -536,20 +591,23 @@ class Edit:
         return [sum_of(self.text), sum_of("\n".join(sorted(bodies)))]
 
     def words(self):
-        """Its words and those of the functions that it changes; and for a name that an import gives, the words of what it is given to. If it changes more
-        than bodies, all names."""
+        """Its words and those of the functions that it changes, and for a name that an import gives, the words of what it is given to; and the definitions
+        that imports bring. If it changes more than bodies, all names."""
         if not self.functions():
-            return set().union(*(words_of(name) for it in self.crate.all_items() for name in it.names))
+            every = [(it, name) for it in self.crate.all_items() for name in it.names]
+            return set().union(*(words_of(name) for _, name in every)), {(it.crate, it.file, name.partition(".")[2]) for it, name in every if it.file}
         words, files = words_of(self.text), [(self.crate.sources()[path], at) for path, at in self.applied({})[0]]
         words = words.union(*(words_of(read.function_text(at) + read.block_around(at)) for read, at in files))
-        return words.union(*(words_of(what) for read, _ in files for name, what in read.used if name in words or name == "*"))
+        used = {what for read, _ in files for name, what in read.used if name in words or name == "*"}
+        brings = [brought(f"use {it}") for it in used]
+        return words.union(*(words_of(left) for _, left in brings)), set().union(*(found for found, _ in brings))
 
     def stands(self, recorded, gone):
         """Whether what a record has of it is so still, where what goes by these names is not there as it was."""
         if not gone or recorded[:2] != self.sums():
             return recorded[:2] == self.sums()
-        code, words = reached(self.words(), self.crate.all_items())
-        return not any(is_named(it, code, words) for it in gone)
+        reach = reached(self.crate.name, *self.words(), self.crate.all_items())
+        return not any(reach.names(*it) for it in gone)
 
 
 class Room:

@@ -96,7 +96,7 @@ def ends_of_budgets(program):
 def examples():
     """Each example that reads, without input, and where its input fails: a failed read is not the end of the input, and it tells an error."""
     plain = lambda found: (*found[:2], re.sub("(?m)^Error: .*", "Error", found[2]))
-    for folder in sorted(it.parent for it in TOP.glob("crates/example_*/stdin")):
+    for folder in sorted(it.parent for it in TOP.glob("crates/example_*/stdin") if it.stat().st_size):
         name, program, top = folder.name, [str(folder / "out" / folder.name)], os.open(TOP, os.O_RDONLY)
         yield f"{name}, no input", run_to_end(program, ""), (0, "", "")
         yield f"{name}, a folder as input", plain(run_to_end(program, "", stdin=top)), (1, "", "Error\n")

@@ -452,7 +452,7 @@ def page(file):
         return new
 
     lines = dict(re.findall(r"(?m)^(\w+)[^:#\n]*: *(.*)$", (top / "crates.txt").read_text()))
-    for crate, uses in re.findall(r"(?m)^    (\w+): ([\w ]+)$", text):
+    for crate, uses in re.findall(r"(?m)^    (?:echo ')?(\w+): ([\w ]+)(?:$|' >>)", text):
         if crate in lines and uses != lines[crate]:
             wrong.append(f"{file.relative_to(top)}: the line of {crate} is not that of crates.txt")
     if file.name == "USING.md":

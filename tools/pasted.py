@@ -38,7 +38,8 @@ class Piece(NamedTuple):
 
 def line_of(text, taken):
     """The crates that a page's line of crates.txt names behind what is taken, if it has one."""
-    found = re.search(rf"(?m)^ +\w+: ({taken}\b[ \w]*)$", text)
+    said = rf"\w+: ({taken}\b[ \w]*)"
+    found = re.search(rf"(?m)^ +{said}$", text) or re.search(rf"(?m)^ +echo '{said}' >>", text)
     return found[1].strip() if found else ""
 
 

@@ -5,8 +5,9 @@
   tools/release.py --over                        tells the commit and the kit, as ./test prints them
   tools/release.py                               (the gate) looks that what comes from an archive is what comes from the checkout, and proves nothing
 
-VERSION is that of CHANGELOG.md's newest heading of a version, KIT the first word of `rt version`. The checkout has to be as its commit is, and its crates as
-in the commit that the heading's section names, if it names one. Archived are the crates of the library as `tools/take.py` takes them, with their pages, that
+VERSION is that of CHANGELOG.md's newest heading of a version where the crates are as in the commit that its section names, and else the one that the section
+Unreleased says will come, that word and the commit: 0.5.0-1-unreleased-0123abcd. KIT is the first word of `rt version`. The checkout has to be as its commit
+is. Archived are the crates of the library as `tools/take.py` takes them, with their pages, that
 script, and what is proved of them: `rt ci` takes over what this machine kept of the crates, as after ./test, and proves the others from nothing. `rt check`
 goes on from that once a stamp says what it was made of, which the kit's own code makes; a crate that names all of them is checked as a trial.
 RELEASE in it has the commit, the kit, what `rt ci` and the gate said (that it was not seen, where no LOG is given) and the checksum of each file."""
@@ -58,24 +59,33 @@ def over():
     return f"commit {git('rev-parse', 'HEAD') or 'unknown'}{changed} with {take.kit()}"
 
 
+def is_as_at(named):
+    """Whether the library is as in that commit. Where the commit is not in this clone, nobody knows, so it is not said to be."""
+    crates = [f"crates/{crate}/{part}" for crate in take.library(take.lines_of(top)) for part in ("src", "specs", "proofs")]
+    return git("cat-file", "-t", named) == "commit" and not git("diff", "--name-only", named, "HEAD", "--", *crates)
+
+
 def version():
-    """The newest version in CHANGELOG.md, and the commit that its section names."""
-    file = top / "CHANGELOG.md"
-    found = re.search(r"(?ms)^## (\d+\.\d+\.\d+-\d+)$(.*?)(?=^## |\Z)", file.read_text() if file.is_file() else "")
+    """The version: CHANGELOG.md's newest, or that to come with the commit, where the library is no longer as the newest's commit has it."""
+    text = (top / "CHANGELOG.md").read_text() if (top / "CHANGELOG.md").is_file() else ""
+    found = re.search(r"(?ms)^## (\d+\.\d+\.\d+-\d+)$(.*?)(?=^## |\Z)", text)
     if not found:
         stop("CHANGELOG.md has no heading of a version, as '## 0.4.9-1'")
-    return found[1], "".join(re.findall(r"\b[0-9a-f]{40}\b", found[2])[:1])
+    named = re.search(r"\b[0-9a-f]{40}\b", found[2])
+    if not named or is_as_at(named[0]):
+        return found[1]
+    to_come = re.search(r"(?m)^It will be (\S+-\d+)\.$", text[: found.start()].partition("\n## Unreleased\n")[2])
+    if not to_come:
+        stop(f"the library is not as in the commit of version {found[1]}, and CHANGELOG.md has no '## Unreleased' with a line 'It will be VERSION.': see tools/changes.py --check")
+    return f"{to_come[1]}-unreleased-{git('rev-parse', 'HEAD')[:8]}"
 
 
-def stop_on_changes(number, named):
-    """Stops where the checkout is not as its commit, or the library not as in the commit that the version names."""
+def stop_on_changes():
+    """Stops where the checkout is not as its commit."""
     if not git("rev-parse", "HEAD"):
         stop("this is no checkout, so nothing tells which commit it is")
     if changed := git("status", "--porcelain"):
         stop(f"the checkout is not as its commit is:\n{take.listing(changed.splitlines())}")
-    crates = [f"crates/{crate}/{part}" for crate in take.library(take.lines_of(top)) for part in ("src", "specs", "proofs")]
-    if named and git("cat-file", "-t", named) == "commit" and (changed := git("diff", "--name-only", named, "HEAD", "--", *crates)):
-        stop(f"the library is not as in the commit of version {number}, so CHANGELOG.md lacks a newer version:\n{take.listing(changed.splitlines())}")
 
 
 def gate(log):
@@ -200,8 +210,8 @@ def pack(folder, archive, level):
 
 def write(to, log):
     """Makes the archive."""
-    number, named = version()
-    stop_on_changes(number, named)
+    stop_on_changes()
+    number = version()
     said = {"version": number, "commit": git("rev-parse", "HEAD"), "kit": take.kit(), "gate": gate(log)}
     with tempfile.TemporaryDirectory() as room:
         folder = pathlib.Path(room) / f"fallible_collections-{number}-{said['kit'].split()[0]}"

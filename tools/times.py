@@ -126,18 +126,20 @@ def first_checks(sums):
 
 
 def begin(log):
-    """Says what the gate will do, how long that takes, and what it needs."""
+    """Says how long the gate takes, what a first look shows, what the gate will do, and what it needs."""
     crates = re.findall(r"^(\w+)[^:#\n]*:", pathlib.Path("crates.txt").read_text(), re.M)
     rows = re.findall(r"^\| (\w+) \| (\S+) \| (\d+) \| (\d+) \| (\d+) \|", PAGE.read_text(encoding="utf-8"), re.M)
-    two = re.search(r"on 2 cores (?:some )?(\d+) minutes", PAGE.read_text(encoding="utf-8"))
+    here, known = len(os.sched_getaffinity(0)), "nobody wrote down how long this takes (docs/GATE.md)"
+    if rows:
+        commit, _, cores, minutes, processor = rows[-1]
+        most = max(int(minutes), -(-int(processor) // here))
+        known = f"some {most} minutes on the {here} cores here from nothing ({minutes} on {cores} at {commit}), far less where this machine kept the proofs"
+    quick = subprocess.run(["tools/quick.py", "--minutes"], capture_output=True, text=True, check=False).stdout.strip()
+    print(f"test: {known}; ./test --quick shows in some {quick} whether all tests and programs do in a trial what they are to do, and proves nothing")
     print(f"test: proves {len(crates)} crates and their tests, tries {sum(map(edits_of, crates))} wrong bodies, runs each test and program,")
     print("test: then lines through the built program, its ends, and all with each request for memory refused in turn.")
-    if rows:
-        commit, _, cores, minutes, _ = rows[-1]
-        on_two = f", some {two[1]} on 2 by a model" if two else ""
-        print(f"test: from nothing it took {minutes} minutes on {cores} cores at {commit}{on_two} (docs/GATE.md); far less where this machine kept the proofs.")
     free = shutil.disk_usage(".").free / 1e9
-    print(f"test: it needs rt, cc and python3, 8 GB of memory and 5 GB of disk ({free:.0f} are free); what rt ci says goes to {log}", flush=True)
+    print(f"test: it needs rt, cc, python3 and zstd, 8 GB of memory and 12 GB of disk ({free:.0f} are free); what rt ci says goes to {log}", flush=True)
 
 
 def main():

@@ -17,13 +17,12 @@ def first_page(site):
     readme = (site.top / "README.md").read_text()
     lead = site.lead_from("README.md")
     page = markdown.Page(lead)
-    opening = page.html(site.titled(readme[: readme.index("\nIts line of")], "README.md"))
-    wants = re.search(r"(?ms)^## I want to\n(.*?)(?=^## )", readme)
-    wishes = [it for it in re.split(r"(?m)^(?=- )", wants[1] if wants else "") if "tools/site.py" not in it]  # who reads this has it
-    start = markdown.Page(lead).html(site.titled("".join(wishes), "README.md"))
+    opening = page.html(site.titled(readme[: readme.index("\n## What there is")], "README.md"))
+    guides = re.search(r"(?ms)^\[[^\n]*\]\(docs/USING\.md\),.*?^$", readme)
+    start = markdown.Page(lead).html(site.titled(guides[0] if guides else "", "README.md"))
     body = [opening, f'<p><a class="more" href="{site.guides["README.md"]}">How to try it, and what is proved</a></p>']
-    body.append(f'<h2 id="start">I want to</h2>{start}')
-    side = ['<p><a href="#start">I want to</a></p><h2>Modules</h2><ul>']
+    body.append(f'<h2 id="start">Read on</h2>{start}')
+    side = ['<p><a href="#start">Read on</a></p><h2>Modules</h2><ul>']
     body.append('<h2 id="types">Types and functions, by module</h2>')
     for path in site.homes:
         types, functions = site.in_module(path)

@@ -20,7 +20,7 @@ use Rattle.fc_base.proofs.Laws.{value_at_equal, value_at_put_equal, value_at_put
 use Rattle.fc_base.proofs.Laws.{length_cut_there, length_put_there, length_put_new}
 use Rattle.fc_set.specs.Items.{item_at, without, with_item, AreAscending}
 use Rattle.fc_set.proofs.ItemFacts.{keys, keys_length, item_at_keys, with_item_keys, without_keys, none_keys, some_keys}
-use Rattle.fc_index.specs.Rows.{key_then_id, has_key, Lists, without_old, IsValueSet}
+use Rattle.fc_index.specs.Rows.{key_then_id, has_key, has_both, Lists, without_old, IsNewKey, IsValueSet}
 use Rattle.fc_index.specs.declared.keyed.Keyed.{Keyed}
 
 is_new : {X : Type 0} (o : Option X) → is_some o ≡ false → o ≡ None
@@ -32,6 +32,10 @@ both_equal : (o p : Ordering) → is_eq (ordering_then o p) ≡ (is_eq o && is_e
 both_equal Less p = refl
 both_equal Equal p = refl
 both_equal Greater p = refl
+
+and_false : (b : Bool) → (b && false) ≡ false
+and_false true = refl
+and_false false = refl
 
 or_true : (b : Bool) → (b || true) ≡ true
 or_true true = refl
@@ -350,6 +354,25 @@ module _ {K I R : Type 0} (cmp : K → K → Ordering) (ids : I → I → Orderi
 pub refused_at : (n : ℕ) {a b : ℕ} (e : TryReserveError) → a ≡ n → b ≡ n → MayGrowRefuse a e ⊎ MayGrowRefuse b e → MayGrowRefuse n e
 refused_at n e i j (inl r) = subst (λ m. MayGrowRefuse m e) i r
 refused_at n e i j (inr r) = subst (λ m. MayGrowRefuse m e) j r
+
+-- Where the row at an id has not both keys, one of them is new to its index, and where one is, it has not both.
+module _ {I A B V : Type 0} (firsts : A → A → Ordering) (seconds : B → B → Ordering) (ids : I → I → Ordering) (rows : List (I × Keyed A B V))
+    (by_first : List (A × I)) (by_second : List (B × I)) (i : Lists firsts ids (λ r. r.first) rows by_first)
+    (j : Lists seconds ids (λ r. r.second) rows by_second) (id : I) (a : A) (b : B) where
+  pub new_one : has_both firsts seconds (value_at ids rows id) a b ≡ false → IsNewKey firsts ids by_first a id ⊎ IsNewKey seconds ids by_second b id
+  new_one h = go _ _ refl refl h
+    where
+      go : (p q : Bool) → has_key firsts (λ (r : Keyed A B V). r.first) (value_at ids rows id) a ≡ p
+          → has_key seconds (λ (r : Keyed A B V). r.second) (value_at ids rows id) b ≡ q → (p && q) ≡ false
+          → IsNewKey firsts ids by_first a id ⊎ IsNewKey seconds ids by_second b id
+      go false q e f h = inl (is_new _ (i.exact a id ∙ e))
+      go true false e f h = inr (is_new _ (j.exact b id ∙ f))
+      go true true e f h = absurd cc
+
+  pub not_both : IsNewKey firsts ids by_first a id ⊎ IsNewKey seconds ids by_second b id → has_both firsts seconds (value_at ids rows id) a b ≡ false
+  not_both (inl n) = ap (λ p. p && has_key seconds (λ r. r.second) (value_at ids rows id) b) (sym (i.exact a id) ∙ ap is_some n)
+  not_both (inr n) = ap (λ q. has_key firsts (λ r. r.first) (value_at ids rows id) a && q) (sym (j.exact b id) ∙ ap is_some n)
+      ∙ and_false (has_key firsts (λ r. r.first) (value_at ids rows id) a)
 
 -- A value that is put with the keys of a row is set.
 pub value_set : {I A B V : Type 0} (ids : I → I → Ordering) (id : I) (old value given : V) (rows before after : List (I × Keyed A B V))

@@ -13,6 +13,10 @@ use Rattle.fc_index.specs.declared.keyed.Keyed.{Keyed}
 abbrev pub key_then_id : {K I : Type 0} → (K → K → Ordering) → (I → I → Ordering) → K × I → K × I → Ordering
 key_then_id cmp ids a b = ordering_then (cmp a.0 b.0) (ids a.1 b.1)
 
+-- A key and an id stand in an index not yet.
+abbrev pub IsNewKey : {K I : Type 0} → (K → K → Ordering) → (I → I → Ordering) → List (K × I) → K → I → Type 0
+IsNewKey cmp ids index k i = item_at (key_then_id cmp ids) index (k, i) ≡ None
+
 -- Whether a key lies within two bounds.
 abbrev pub lies : {K : Type 0} → (K → K → Ordering) → Bound K → Bound K → K → Bool
 lies cmp lo hi k = starts cmp lo k && stops cmp hi k
@@ -21,6 +25,10 @@ lies cmp lo hi k = starts cmp lo k && stops cmp hi k
 abbrev pub has_key : {K R : Type 0} → (K → K → Ordering) → (R → K) → Option R → K → Bool
 has_key cmp key None k = false
 has_key cmp key (Some r) k = is_eq (cmp k (key r))
+
+-- Whether a row is there, and a and b are equal to its two keys.
+abbrev pub has_both : {A B V : Type 0} → (A → A → Ordering) → (B → B → Ordering) → Option (Keyed A B V) → A → B → Bool
+has_both firsts seconds row a b = has_key firsts (λ r. r.first) row a && has_key seconds (λ r. r.second) row b
 
 module _ {K I R : Type 0} (cmp : K → K → Ordering) (ids : I → I → Ordering) (key : R → K) where
   -- The index lists exactly the rows, in order: it has as many items as there are rows, and a key and an id stand in it where a row of that key is at the id,

@@ -1,9 +1,9 @@
 //! The steps of an insertion into both indexes: items that are put in, taken back where the row is refused, and gone with a row that is replaced.
-ghost use Rattle.std.specs.Prelude.{◌≡◌, ◌↔◌, ◌⊎◌, cond, length, IsTrue, IfOk, IfErr, OnOk, OnErr, None};
+ghost use Rattle.std.specs.Prelude.{◌≡◌, ◌↔◌, ◌⊎◌, cond, length, IsTrue, IfOk, IfErr, OnOk, OnErr, IsErr, None};
 ghost use Rattle.std.specs.Option.{option_map};
 ghost use Rattle.fc_base.specs.Growth.{MayGrowRefuse};
 ghost use Rattle.fc_set.specs.Items.{items, item_at, with_item, without, AreAscending};
-ghost use Rattle.fc_index.specs.Rows.{key_then_id, without_old};
+ghost use Rattle.fc_index.specs.Rows.{IsNewKey, key_then_id, without_old};
 
 use crate::keyed::Keyed;
 use fc_base::{Handle, TryReserveError};
@@ -27,7 +27,10 @@ pub(crate) fn put_keys<I: Ord + Copy, A: Ord + Copy, B: Ord + Copy, H: Handle>(
     ensures new_second { IfOk result (λ new. IsTrue new.1 ↔ (item_at (key_then_id B.cmp I.cmp) (items seconds.old) (second, id) ≡ None)) }
     ensures ascending { OnOk result (AreAscending (key_then_id A.cmp I.cmp) (items firsts.new) × AreAscending (key_then_id B.cmp I.cmp) (items seconds.new)) }
     ensures unchanged { OnErr result ((items firsts.new ≡ items firsts.old) × (items seconds.new ≡ items seconds.old)) }
+    ensures new_key { OnErr result (IsNewKey A.cmp I.cmp (items firsts.old) first id ⊎ IsNewKey B.cmp I.cmp (items seconds.old) second id) }
     ensures error { IfErr result (λ e. MayGrowRefuse (length (items firsts.old)) e ⊎ MayGrowRefuse (length (items seconds.old)) e) }
+    ensures full_first { IsNewKey A.cmp I.cmp (items firsts.old) first id → length (items firsts.old) ≡ usize.MAX → IsErr result }
+    ensures full_second { IsNewKey B.cmp I.cmp (items seconds.old) second id → length (items seconds.old) ≡ usize.MAX → IsErr result }
 {
     let is_new_first = match firsts.try_insert((first, id)) {
         Ok(is_new) => is_new,

@@ -1,11 +1,11 @@
 //! The table: rows by their ids, and an index for each second key.
-ghost use Rattle.std.specs.Prelude.{◌≡◌, [], length, IfOk, IfErr, OnOk, OnErr, IsTrue, IsSome, None, ◌↔◌};
+ghost use Rattle.std.specs.Prelude.{◌≡◌, [], length, IfOk, IfErr, OnOk, OnErr, IsErr, IsTrue, IsSome, None, false, ◌↔◌};
 ghost use Rattle.fc_base.specs.Ascending.{IsAscending};
 ghost use Rattle.fc_base.specs.Growth.{MayGrowRefuse};
 ghost use Rattle.fc_base.specs.OneKey.{put, cut};
 ghost use Rattle.fc_base.specs.Parts.{at, value_at};
 ghost use Rattle.fc_map.specs.Entries.{now_value};
-ghost use Rattle.fc_index.specs.Rows.{AreByKey, IsValueSet, lies};
+ghost use Rattle.fc_index.specs.Rows.{AreByKey, IsValueSet, has_both, lies};
 
 use crate::edge::items_between;
 use crate::keyed::Keyed;
@@ -135,8 +135,9 @@ impl<I: Ord + Copy, A: Ord + Copy, B: Ord + Copy, V: Drop, H: Handle> Table<I, A
     /// its second keys no more; else the answer is `Ok(None)`.
     ///
     /// # Errors
-    /// At a new id or key: `CapacityOverflow` where the table holds `usize::MAX` rows, and else `AllocError`, where a request for memory was
-    /// refused, which takes a table that is empty, or has rows enough to fill a leaf. The table is then as it was, and the value comes back.
+    /// Only where no row with both keys is at the id: `CapacityOverflow` where the table holds `usize::MAX` rows, and then always; else `AllocError`, where
+    /// a request for memory was refused, which takes a table that is empty, or has rows enough to fill a leaf. The table is then as it was, and the value
+    /// comes back.
     pub fn try_insert(
         &mut self,
         id: I,
@@ -148,7 +149,9 @@ impl<I: Ord + Copy, A: Ord + Copy, B: Ord + Copy, V: Drop, H: Handle> Table<I, A
         ensures put { OnOk result (self.new ≡ put I.cmp self.old id (record { first = first; second = second; value = value })) }
         ensures unchanged { OnErr result (self.new ≡ self.old) }
         ensures back { IfErr result (λ e. e.0 ≡ value) }
+        ensures new_key { OnErr result (has_both A.cmp B.cmp (value_at I.cmp self.old id) first second ≡ false) }
         ensures error { IfErr result (λ e. MayGrowRefuse (length self.old) e.1) }
+        ensures full { has_both A.cmp B.cmp (value_at I.cmp self.old id) first second ≡ false → length self.old ≡ usize.MAX → IsErr result }
         ensures ascending { OnOk result (IsAscending I.cmp self.new) }
     {
         let new = match put_keys(&mut self.firsts, &mut self.seconds, first, second, id) {

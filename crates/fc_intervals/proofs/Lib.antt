@@ -1,5 +1,6 @@
 pub mod Laws
 pub mod Joined
+pub mod Lengths
 pub mod Lists
 pub mod Order
 pub mod Parted

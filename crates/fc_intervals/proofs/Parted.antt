@@ -1,6 +1,5 @@
 -- A list of stretches in which what goes on behind a point starts there too, and what a call on a range makes of it.
-use Rattle.std.proofs.Common.{◌≡◌, ◌+◌, Bool, true, false, cond, List, ◌∷◌, ◌++◌, length, Option, Some, None}
-use Rattle.std.proofs.Common.{refl, sym, ap, ◌∙◌, subst, inl, inr, append-nil, length-append, arith}
+use Rattle.std.proofs.Common.{◌≡◌, Bool, true, false, cond, List, ◌∷◌, ◌++◌, Option, Some, None, refl, sym, ap, ◌∙◌, subst, append-nil}
 use Rattle.std.specs.Prelude.{◌&&◌, not, map, unwrap_or}
 use Rattle.std.specs.List.{filter}
 use Rattle.std.specs.Option.{option_map}
@@ -10,8 +9,6 @@ use Rattle.std.specs.declared.cmp.Ordering.{Ordering}
 use Rattle.std.specs.declared.cmp.Ordering.TheVariants.{Less, Equal, Greater}
 use Rattle.std.specs.declared.ops.Bound.TheVariants.{Included, Excluded}
 use Rattle.std.proofs.lemmas.List.Elements.{filter-append}
-use Rattle.fc_base.specs.declared.try_reserve_error.TryReserveError.{TryReserveError}
-use Rattle.fc_base.specs.Growth.{MayGrowRefuse}
 use Rattle.fc_base.specs.Halves.{not_below}
 use Rattle.fc_base.specs.OneKey.{put, cut}
 use Rattle.fc_base.specs.Parts.{at, below, above}
@@ -20,7 +17,6 @@ use Rattle.fc_base.proofs.Laws.{cut_put_new}
 use Rattle.fc_laws.proofs.NeighbourLaws.{below_put, not_below_put}
 use Rattle.fc_laws.specs.Words.{last_item}
 use Rattle.fc_map.specs.Ranged.{outside}
-use Rattle.fc_intervals.specs.Refusals.{MayRefusePut, MayRefuseRest}
 use Rattle.fc_intervals.specs.Steps.{ahead, ended, IsCut, IsParted, IsRest, starting}
 use Rattle.fc_intervals.specs.Stretches.{AreApart, IsWritten}
 use Rattle.fc_intervals.specs.declared.stretch.Stretch.{Stretch}
@@ -80,16 +76,20 @@ module _ {K V : Type 0} (cmp : K → K → Ordering) (o : IsTotalOrder cmp) (s :
 module _ {K V : Type 0} (cmp : K → K → Ordering) (o : IsTotalOrder cmp) (s : List (K × Stretch K V)) (apart : AreApart cmp s)
     (same : V → V → Type 0) (b : K) where
   module _ (y : K × Stretch K V) (r : Stretch K V) (last : last_item (below cmp s b) ≡ Some y) (on : cmp b y.1.end ≡ Less) where
+    -- none starts where one goes on
+    pub none_starts : at cmp s b ≡ None
+    none_starts = ap (λ l. at cmp l b) (sym (halves cmp o s apart b))
+        ∙ not_found _ (below cmp s b ++ not_below cmp s b) (all_joined _ (below cmp s b) (not_below cmp s b)
+        (all_map _ _ (λ e h. ap is_eq h) (below cmp s b) (all_below cmp s b))
+        (all_map _ _ (λ e h. ap is_eq h) (not_below cmp s b) (behind_greater cmp o s apart b y last on)))
+
     -- the rest finds its place, and can be taken out again
     put_rest : put cmp s b r ≡ below cmp s b ++ (b, r) ∷ not_below cmp s b
     put_rest = ap (λ l. put cmp l b r) (sym (halves cmp o s apart b))
         ∙ put_between cmp (below cmp s b) (not_below cmp s b) b r (all_below cmp s b) (behind_greater cmp o s apart b y last on)
 
     cut_rest : cut cmp (put cmp s b r) b ≡ s
-    cut_rest = cut_put_new cmp s b r o (apart_ascend cmp o s apart) (ap (λ l. at cmp l b) (sym (halves cmp o s apart b))
-        ∙ not_found _ (below cmp s b ++ not_below cmp s b) (all_joined _ (below cmp s b) (not_below cmp s b)
-        (all_map _ _ (λ e h. ap is_eq h) (below cmp s b) (all_below cmp s b))
-        (all_map _ _ (λ e h. ap is_eq h) (not_below cmp s b) (behind_greater cmp o s apart b y last on))))
+    cut_rest = cut_put_new cmp s b r o (apart_ascend cmp o s apart) none_starts
 
   pub not_parted : IsRest cmp same s b None → IsParted cmp same b false s s
   not_parted h = record { rest = None; is_rest = h; is = sym (halves cmp o s apart b); undone = refl }
@@ -103,25 +103,6 @@ module _ {K V : Type 0} (cmp : K → K → Ordering) (o : IsTotalOrder cmp) (s :
         is = e ∙ put_rest h.0 r h.1 on;
         undone = ap (λ l. cut cmp l b) e ∙ cut_rest h.0 r h.1 on;
       }
-
-  -- What refuses what goes on there, and what a stretch more beside all that is there then.
-  module _ (may_refuse : V → TryReserveError → Type 0) (e : TryReserveError) where
-    pub rest_refused : MayRefuseRest cmp may_refuse s b (length s) e → MayRefusePut cmp may_refuse s b e
-    rest_refused (y, last, on, inl own) = inr (y, last, on, inl own)
-    rest_refused (y, last, on, inr more) = inl more
-
-    pub beside_refused : (rest : Option (Stretch K V)) → IsRest cmp same s b rest → (t : List (K × Stretch K V))
-        → t ≡ below cmp s b ++ (starting b rest ++ not_below cmp s b) → MayGrowRefuse (length t) e → MayRefusePut cmp may_refuse s b e
-    beside_refused None h t is more = inl (subst (λ n. MayGrowRefuse n e) (ap length (is ∙ halves cmp o s apart b)) more)
-    beside_refused (Some r) h t is more =
-        let one : length t ≡ length s + 1 = omega (
-          arith,
-          ap length is,
-          ap length (halves cmp o s apart b),
-          length-append (below cmp s b) ((b, r) ∷ not_below cmp s b),
-          length-append (below cmp s b) (not_below cmp s b),
-        ) in
-        inr (h.0, h.1, h.2, inr (subst (λ n. MayGrowRefuse n e) one more))
 
   module _ (rest : Option (Stretch K V)) (is_rest : IsRest cmp same s b rest) where
     abbrev back : List (K × Stretch K V)

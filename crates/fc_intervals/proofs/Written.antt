@@ -253,6 +253,9 @@ module _ {K V : Type 0} (cmp : K → K → Ordering) (o : IsTotalOrder cmp) (s :
     no_rest None h = tt
     no_rest (Some y) h = not_lt_from_le o y.1.end b (ap is_le (le_less o y.1.end a b (le_from_not_lt o a y.1.end h) range))
 
+    pub free_behind : IsRest cmp same s b None
+    free_behind = no_rest (last_item (below cmp s b)) by
+
     start_before : (l : List (K × Stretch K V)) → AreApart cmp l → EndBy cmp a l → AllByRecursion (λ e. is_lt (cmp e.0 a) ≡ true) l
     start_before [] h e = tt
     start_before (x ∷ l) h e = (ap is_lt (less_le o x.0 x.1.end a h.0 e.0), start_before l h.2 e.1)
@@ -271,9 +274,8 @@ module _ {K V : Type 0} (cmp : K → K → Ordering) (o : IsTotalOrder cmp) (s :
 
     pub put_free : (g : Stretch K V) → g.end ≡ b → (u : List (K × Stretch K V)) → u ≡ put cmp s a g → AreApart cmp u × IsWritten cmp same a b (Some g.value) s u
     put_free g end u is =
-        let none : IsRest cmp same s b None = no_rest (last_item (below cmp s b)) by in
-        put_all a b (ap is_le range) same None none range g.value a (tied_itself o a) u
-        (is ∙ ap (λ l. put cmp l a g) free ∙ put_given a b (ap is_le range) same None none range g
+        put_all a b (ap is_le range) same None free_behind range g.value a (tied_itself o a) u
+        (is ∙ ap (λ l. put cmp l a g) free ∙ put_given a b (ap is_le range) same None free_behind range g
         ∙ ap (λ e. ahead cmp s a ++ (a, let x : Stretch K V = record { end = e; value = g.value } in x) ∷ not_below cmp s b) end)
 
 -- what an empty range leaves as it is

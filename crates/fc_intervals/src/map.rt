@@ -1,10 +1,10 @@
 //! The map: stretches of points, by their starts.
-ghost use Rattle.std.specs.Prelude.{◌≡◌, ◌↔◌, ◌-◌, [], length, slice_get, true, false, IsTrue, IsOk, IfErr, OnOk, OnErr, None, Some};
+ghost use Rattle.std.specs.Prelude.{◌≡◌, ◌↔◌, ◌-◌, ◌<◌, [], length, slice_get, true, false, IsTrue, IsOk, IsErr, IfErr, OnOk, OnErr, None, Some};
 ghost use Rattle.std.specs.Ordering.{is_lt, is_le};
 ghost use Rattle.std.specs.declared.cmp.Ordering.TheVariants.{Less};
 ghost use Rattle.fc_map.specs.Entries.{now_value};
 ghost use Rattle.fc_intervals.specs.Joined.{IsJoined, NoneJoint};
-ghost use Rattle.fc_intervals.specs.Refusals.{MayRefusePut, MayRefuseRest};
+ghost use Rattle.fc_intervals.specs.Refusals.{MayRefusePut, MayRefuseRest, parted_length, put_length};
 ghost use Rattle.fc_intervals.specs.Steps.{IsCut};
 ghost use Rattle.fc_intervals.specs.Stretches.{AreApart, AreGaps, IsKept, IsLookUp, IsWritten, now_stretch, overlapping, stretch_at, value_at_point};
 
@@ -174,15 +174,17 @@ impl<K: Ord + Copy + Drop, V: TryClone, A: Handle> IntervalMap<K, V, A> {
     /// An empty range has no points: nothing changes, no memory is taken, and the value is dropped.
     ///
     /// # Errors
-    /// Where memory was refused: for the copy that goes on behind the range, by its own error; else for a node that a new stretch needs, as `try_insert`
-    /// of the map. The map is then as it was, and the value comes back.
+    /// Where the copy that goes on behind the range was refused, by its own error. Else where a place was, for what goes on, or then for the new stretch,
+    /// which needs one unless a stretch starts where it does: by `CapacityOverflow` where there are `usize::MAX` stretches then, and always; or by
+    /// `AllocError`, where memory for a node was refused. The map is then as it was, and the value comes back.
     pub fn put(&mut self, range: Range<K>, value: V) -> Result<(), (V, TryReserveError)>
         requires { V.can_clone }
         ensures written { OnOk result (IsWritten K.cmp V.same range.start range.end (Some value) self.old self.new) }
         ensures empty { is_lt (K.cmp range.start range.end) ≡ false → IsOk result × (self.new ≡ self.old) }
         ensures unchanged { OnErr result (self.new ≡ self.old) }
         ensures back { IfErr result (λ e. e.0 ≡ value) }
-        ensures error { IfErr result (λ e. MayRefusePut K.cmp V.may_refuse self.old range.end e.1) }
+        ensures error { IfErr result (λ e. MayRefusePut K.cmp V.may_refuse self.old range.start range.end e.1) }
+        ensures full { is_lt (K.cmp range.start range.end) ≡ true → usize.MAX < put_length K.cmp self.old range.start range.end → IsErr result }
     {
         if range.start.cmp(&range.end).is_lt() {
             self.put_over(range.start, range.end, value)
@@ -198,7 +200,8 @@ impl<K: Ord + Copy + Drop, V: TryClone, A: Handle> IntervalMap<K, V, A> {
         ensures written { OnOk result (IsWritten K.cmp V.same start end (Some value) self.old self.new) }
         ensures unchanged { OnErr result (self.new ≡ self.old) }
         ensures back { IfErr result (λ e. e.0 ≡ value) }
-        ensures error { IfErr result (λ e. MayRefusePut K.cmp V.may_refuse self.old end e.1) }
+        ensures error { IfErr result (λ e. MayRefusePut K.cmp V.may_refuse self.old start end e.1) }
+        ensures full { usize.MAX < put_length K.cmp self.old start end → IsErr result }
     {
         steps::put(&mut self.map, start, Stretch { end, value })
     }
@@ -208,14 +211,15 @@ impl<K: Ord + Copy + Drop, V: TryClone, A: Handle> IntervalMap<K, V, A> {
     /// It takes memory only where something does. An empty range has no points: nothing changes.
     ///
     /// # Errors
-    /// Where memory was refused: for the copy that goes on behind the range, by its own error; else for a node that it needs, as `try_insert` of the
-    /// map. The map is then as it was.
+    /// Where the copy that goes on behind the range was refused, by its own error. Else where a place for it was: by `CapacityOverflow` where there are
+    /// `usize::MAX` stretches, and then always; or by `AllocError`, where memory for a node was refused. The map is then as it was.
     pub fn cut(&mut self, range: Range<K>) -> Result<(), TryReserveError>
         requires { V.can_clone }
         ensures written { OnOk result (IsWritten K.cmp V.same range.start range.end None self.old self.new) }
         ensures empty { is_lt (K.cmp range.start range.end) ≡ false → IsOk result × (self.new ≡ self.old) }
         ensures unchanged { OnErr result (self.new ≡ self.old) }
-        ensures error { IfErr result (MayRefuseRest K.cmp V.may_refuse self.old range.end (length self.old)) }
+        ensures error { IfErr result (MayRefuseRest K.cmp V.may_refuse self.old range.end) }
+        ensures full { is_lt (K.cmp range.start range.end) ≡ true → usize.MAX < parted_length K.cmp self.old range.end → IsErr result }
     {
         if range.start.cmp(&range.end).is_lt() {
             self.cut_over(range.start, range.end)
@@ -228,14 +232,15 @@ impl<K: Ord + Copy + Drop, V: TryClone, A: Handle> IntervalMap<K, V, A> {
     /// point, and the values of all points stay. Where none goes on across it, nothing changes, and no memory is taken.
     ///
     /// # Errors
-    /// Where memory was refused: for the copy, by its own error; else for a node that the second stretch needs, as `try_insert` of the map. The map
-    /// is then as it was.
+    /// Where the copy was refused, by its own error. Else where a place for the second stretch was: by `CapacityOverflow` where there are `usize::MAX`
+    /// stretches, and then always; or by `AllocError`, where memory for a node was refused. The map is then as it was.
     pub fn split_at(&mut self, at: K) -> Result<(), TryReserveError>
         requires { V.can_clone }
         ensures split { OnOk result (IsCut K.cmp V.same at at self.old self.new) }
         ensures values { OnOk result ((p : K) → IsKept V.same (value_at_point K.cmp self.old p) (value_at_point K.cmp self.new p)) }
         ensures unchanged { OnErr result (self.new ≡ self.old) }
-        ensures error { IfErr result (MayRefuseRest K.cmp V.may_refuse self.old at (length self.old)) }
+        ensures error { IfErr result (MayRefuseRest K.cmp V.may_refuse self.old at) }
+        ensures full { usize.MAX < parted_length K.cmp self.old at → IsErr result }
     {
         self.cut_over(at, at)
     }
@@ -247,7 +252,8 @@ impl<K: Ord + Copy + Drop, V: TryClone, A: Handle> IntervalMap<K, V, A> {
         ensures cut { OnOk result (IsCut K.cmp V.same start end self.old self.new) }
         ensures written { OnOk result (IsWritten K.cmp V.same start end None self.old self.new) }
         ensures unchanged { OnErr result (self.new ≡ self.old) }
-        ensures error { IfErr result (MayRefuseRest K.cmp V.may_refuse self.old end (length self.old)) }
+        ensures error { IfErr result (MayRefuseRest K.cmp V.may_refuse self.old end) }
+        ensures full { usize.MAX < parted_length K.cmp self.old end → IsErr result }
     {
         steps::clear(&mut self.map, start, end)
     }

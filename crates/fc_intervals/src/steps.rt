@@ -1,9 +1,8 @@
 //! The steps of the calls, on the map that holds stretches by their starts.
-ghost use Rattle.std.specs.Prelude.{◌≡◌, ◌++◌, true, cond, length, None, Some, IfOk, IfErr, OnOk, OnErr};
+ghost use Rattle.std.specs.Prelude.{◌≡◌, ◌+◌, ◌<◌, ◌++◌, true, cond, length, None, Some, IfOk, IfErr, OnOk, OnErr, IsErr};
 ghost use Rattle.std.specs.Ordering.{is_le};
 ghost use Rattle.std.specs.declared.cmp.Ordering.TheVariants.{Less};
 ghost use Rattle.std.specs.declared.ops.Bound.TheVariants.{Included, Excluded};
-ghost use Rattle.fc_base.specs.Growth.{MayGrowRefuse};
 ghost use Rattle.fc_base.specs.Halves.{not_below};
 ghost use Rattle.fc_base.specs.OneKey.{cut, put as with_pair};
 ghost use Rattle.fc_base.specs.Parts.{below};
@@ -11,7 +10,7 @@ ghost use Rattle.fc_base.specs.Ranges.{within};
 ghost use Rattle.fc_map.specs.Entries.{entries, now_pair};
 ghost use Rattle.fc_map.specs.Ranged.{outside};
 ghost use Rattle.fc_laws.specs.Words.{last_item};
-ghost use Rattle.fc_intervals.specs.Refusals.{MayRefusePut, MayRefuseRest};
+ghost use Rattle.fc_intervals.specs.Refusals.{MayRefuseAt, MayRefusePut, MayRefuseRest, parted_length, put_length, starts_at};
 ghost use Rattle.fc_intervals.specs.Stretches.{AreApart, IsLookUp, IsWritten, overlapping, stretch_at};
 ghost use Rattle.fc_intervals.specs.Steps.{ahead, EndsBy, IsCut, IsParted, IsRest};
 
@@ -64,7 +63,7 @@ pub(crate) fn rest_behind<K: Ord + Copy, V: TryClone, A: Handle>(
 ) -> Result<Option<Stretch<K, V>>, TryReserveError>
     requires { V.can_clone }
     ensures rest { IfOk result (λ rest. IsRest K.cmp V.same (entries map.now) at rest) }
-    ensures error { IfErr result (MayRefuseRest K.cmp V.may_refuse (entries map.now) at (length (entries map.now))) }
+    ensures error { IfErr result (MayRefuseRest K.cmp V.may_refuse (entries map.now) at) }
 {
     let Some((_, stretch)) = map.last_before(&at) else {
         return Ok(None);
@@ -98,8 +97,11 @@ fn put_in<K: Ord + Copy + Drop, V: Drop, A: Handle>(
     ensures put { OnOk result (entries map.new ≡ with_pair K.cmp (entries map.old) at stretch) }
     ensures unchanged { OnErr result (entries map.new ≡ entries map.old) }
     ensures back { IfErr result (λ e. e.0 ≡ stretch.value) }
-    ensures error { IfErr result (λ e. MayGrowRefuse (length (entries map.old)) e.1) }
+    ensures error { IfErr result (λ e. MayRefuseAt K.cmp (entries map.old) at (length (entries map.old)) e.1) }
+    ensures full { usize.MAX < length (entries map.old) + cond (starts_at K.cmp (entries map.old) at) 0 1 → IsErr result }
 {
+    // Shows that the number of stretches is a usize.
+    let _len = map.len();
     match map.try_insert(at, stretch) {
         Ok(old) => {
             drop(old);
@@ -118,8 +120,11 @@ fn part<K: Ord + Copy + Drop, V: TryClone, A: Handle>(
     requires apart { AreApart K.cmp (entries map.old) }
     ensures parted { IfOk result (λ is_parted. IsParted K.cmp V.same at is_parted (entries map.old) (entries map.new)) }
     ensures unchanged { OnErr result (entries map.new ≡ entries map.old) }
-    ensures error { IfErr result (MayRefuseRest K.cmp V.may_refuse (entries map.old) at (length (entries map.old))) }
+    ensures error { IfErr result (MayRefuseRest K.cmp V.may_refuse (entries map.old) at) }
+    ensures full { usize.MAX < parted_length K.cmp (entries map.old) at → IsErr result }
 {
+    // Shows that the number of stretches is a usize.
+    let _len = map.len();
     let Some(rest) = rest_behind(map, at)? else {
         return Ok(false);
     };
@@ -152,7 +157,8 @@ fn put_parted<K: Ord + Copy + Drop, V: Drop, A: Handle>(
     ensures put { OnOk result (let s = with_pair K.cmp (entries map.old) from stretch in entries map.new ≡ outside K.cmp (Excluded from) (Excluded stretch.end) (ahead K.cmp s from ++ not_below K.cmp s from)) }
     ensures undone { OnErr result (entries map.new ≡ cond is_parted (cut K.cmp (entries map.old) stretch.end) (entries map.old)) }
     ensures back { IfErr result (λ e. e.0 ≡ stretch.value) }
-    ensures error { IfErr result (λ e. MayGrowRefuse (length (entries map.old)) e.1) }
+    ensures error { IfErr result (λ e. MayRefuseAt K.cmp (entries map.old) from (length (entries map.old)) e.1) }
+    ensures full { usize.MAX < length (entries map.old) + cond (starts_at K.cmp (entries map.old) from) 0 1 → IsErr result }
 {
     let to = stretch.end;
     if let Err(refused) = put_in(map, from, stretch) {
@@ -179,7 +185,8 @@ fn put_across<K: Ord + Copy + Drop, V: TryClone, A: Handle>(
     ensures written { OnOk result (IsWritten K.cmp V.same from stretch.end (Some stretch.value) (entries map.old) (entries map.new)) }
     ensures unchanged { OnErr result (entries map.new ≡ entries map.old) }
     ensures back { IfErr result (λ e. e.0 ≡ stretch.value) }
-    ensures error { IfErr result (λ e. MayRefusePut K.cmp V.may_refuse (entries map.old) stretch.end e.1) }
+    ensures error { IfErr result (λ e. MayRefusePut K.cmp V.may_refuse (entries map.old) from stretch.end e.1) }
+    ensures full { usize.MAX < put_length K.cmp (entries map.old) from stretch.end → IsErr result }
 {
     match part(map, stretch.end) {
         Ok(is_parted) => put_parted(map, from, stretch, is_parted),
@@ -200,7 +207,8 @@ pub(crate) fn put<K: Ord + Copy + Drop, V: TryClone, A: Handle>(
     ensures written { OnOk result (IsWritten K.cmp V.same from stretch.end (Some stretch.value) (entries map.old) (entries map.new)) }
     ensures unchanged { OnErr result (entries map.new ≡ entries map.old) }
     ensures back { IfErr result (λ e. e.0 ≡ stretch.value) }
-    ensures error { IfErr result (λ e. MayRefusePut K.cmp V.may_refuse (entries map.old) stretch.end e.1) }
+    ensures error { IfErr result (λ e. MayRefusePut K.cmp V.may_refuse (entries map.old) from stretch.end e.1) }
+    ensures full { usize.MAX < put_length K.cmp (entries map.old) from stretch.end → IsErr result }
 {
     if is_free(map, from, stretch.end) {
         put_in(map, from, stretch)
@@ -223,7 +231,8 @@ pub(crate) fn clear<K: Ord + Copy + Drop, V: TryClone, A: Handle>(
     ensures apart { OnOk result (AreApart K.cmp (entries map.new)) }
     ensures written { OnOk result (IsWritten K.cmp V.same from to None (entries map.old) (entries map.new)) }
     ensures unchanged { OnErr result (entries map.new ≡ entries map.old) }
-    ensures error { IfErr result (MayRefuseRest K.cmp V.may_refuse (entries map.old) to (length (entries map.old))) }
+    ensures error { IfErr result (MayRefuseRest K.cmp V.may_refuse (entries map.old) to) }
+    ensures full { usize.MAX < parted_length K.cmp (entries map.old) to → IsErr result }
 {
     part(map, to)?;
     end_at(map, from);

@@ -1,5 +1,5 @@
 -- What the place of a key says of a map's list.
-use Rattle.std.proofs.Common.{◌≡◌, ℕ, List, ◌∷◌, ◌++◌, Some, None, refl, sym, ap, ◌∙◌}
+use Rattle.std.proofs.Common.{◌≡◌, ℕ, List, [], ◌∷◌, ◌++◌, Some, None, refl, sym, ap, ◌∙◌}
 use Rattle.std.specs.declared.cmp.Ord as ord
 use Rattle.std.specs.declared.cmp.PartialEq as eq
 use Rattle.std.specs.declared.cmp.PartialOrd as partial
@@ -11,13 +11,14 @@ use Rattle.fc_base.specs.Parts.{at}
 use Rattle.fc_tree_search.specs.Written.{written}
 use Rattle.fc_tree_node.proofs.Gaps.{place_pairs}
 use Rattle.fc_tree_search.proofs.SearchFacts.{gap_put, found_cut}
-use Rattle.fc_tree_search.proofs.WrittenPairs.{written_levels, written_at, written_pairs}
+use Rattle.fc_tree_search.proofs.WrittenPairs.{written_levels, written_at, written_pairs, written_place}
 use Rattle.fc_map.specs.Entries.{Map, entries, IsSoundMap}
 use Rattle.fc_tree_node.specs.TreePlace.{pair_in, IsPlaceIn, before_gap_in, after_gap_in, before_pair_in, after_pair_in}
 use Rattle.fc_map.specs.Lends.{written_in}
 use Rattle.fc_map.specs.Place.{IsHeldAt, IsOpenAt, IsPutIn}
+use Rattle.fc_map.specs.KeptPlace.{IsKeptPlace, all_written}
 use Rattle.fc_map.specs.Entry.{map_written, with_entry_value}
-use Rattle.fc_map.specs.Unique.{place-prop}
+use Rattle.fc_map.specs.Unique.{kept-prop}
 use Rattle.fc_map.specs.declared.map.entry.OccupiedEntry.{OccupiedEntry}
 use Rattle.fc_map.proofs.PlaceFacts.{held_pair, open_none}
 
@@ -51,6 +52,15 @@ module _ {K V Z : Type 0} (cmp : K → K → Ordering) (k : K) where
 
 -- An entry's map in which a value was written at its place.
 module _ {K V Z : Type 0} where
+  place_stays : (m : Map K V Z) (path : List ℕ) (v : V) → IsPlaceIn m path → IsPlaceIn (written_in m path v) path
+  place_stays None path v p = p
+  place_stays (Some root) path v p = written_place path root v p
+
+  -- A place stays one, whatever values are written there.
+  pub kept_place : (m : Map K V Z) (path : List ℕ) → IsPlaceIn m path → (values : List V) → IsPlaceIn (all_written m path values) path
+  kept_place m path p [] = p
+  kept_place m path p (v ∷ values) = kept_place (written_in m path v) path (place_stays m path v p) values
+
   -- What another value at a place leaves of what can be seen there.
   pub record IsRewritten (m : Map K V Z) (path : List ℕ) (v : V) : Type 0 where
     pub key_is : option_map (λ p. p.0) (pair_in (written_in m path v) path) ≡ option_map (λ p. p.0) (pair_in m path)
@@ -85,6 +95,6 @@ module _ {K V Z : Type 0} where
   put_place (Some root) path p front back put = (put.place, put.pair_is)
 
 module _ {K V Z : Type 0} {g : ord.Ghosts K} {g' : eq.Ghosts K} {g'' : partial.Ghosts K} where
-  pub occupied_written : (o : OccupiedEntry K V Z g g' g'') (v : V) (p : IsPlaceIn (map_written o v) o.path)
+  pub occupied_written : (o : OccupiedEntry K V Z g g' g'') (v : V) (p : IsKeptPlace (map_written o v) o.path)
       → record { map = record o.map { now = map_written o v }; path = o.path; place = p } ≡ with_entry_value o v
-  occupied_written o v p = ap (λ q. record (with_entry_value o v) { place = q }) (place-prop (map_written o v) o.path p (with_entry_value o v).place)
+  occupied_written o v p = ap (λ q. record (with_entry_value o v) { place = q }) (kept-prop (map_written o v) o.path p (with_entry_value o v).place)

@@ -11,20 +11,13 @@ use Rattle.std.specs.declared.cmp.Ord as ord
 use Rattle.std.specs.declared.cmp.PartialEq as eq
 use Rattle.std.specs.declared.cmp.PartialOrd as partial
 use mir.Syntax.{named}
-use Rattle.fc_map.specs.KeptPlace.{written_place}
 use Rattle.fc_map.specs.Entries.{Map, entries, IsSoundMap}
-use Rattle.fc_tree_node.specs.TreePlace.{IsPlaceIn, pair_in, before_gap_in, after_gap_in, before_pair_in, after_pair_in}
+use Rattle.fc_tree_node.specs.TreePlace.{pair_in, before_gap_in, after_gap_in, before_pair_in, after_pair_in}
 use Rattle.fc_map.specs.Lends.{written_in}
 use Rattle.fc_map.specs.declared.map.entry.Entry.{Entry}
 use Rattle.fc_map.specs.declared.map.entry.OccupiedEntry.{OccupiedEntry}
 use Rattle.fc_map.specs.contracts.map.BTreeMap.{the_row}
 use Rattle.fc_map.specs.contracts.map.entry.OccupiedEntry as occupied
-
-module _ {K V Z : Type 0} where
-  -- A place stays one, whatever is written there.
-  pub place_stays : (m : Map K V Z) (path : List ℕ) (v : V) → IsPlaceIn m path → IsPlaceIn (written_in m path v) path
-  place_stays None path v p = p
-  place_stays (Some root) path v p = written_place path root v p
 
 module _ {K V Z : Type 0} {g : ord.Ghosts K} {g' : eq.Ghosts K} {g'' : partial.Ghosts K} where
   -- The reference to the map.
@@ -74,7 +67,7 @@ module _ {K V Z : Type 0} {g : ord.Ghosts K} {g' : eq.Ghosts K} {g'' : partial.G
   with_entry_value o v = record {
     map = record o.map { now = map_written o v };
     path = o.path;
-    place = place_stays o.map.now o.path v o.place;
+    place = λ values. o.place (v ∷ values);
   }
 
   -- The new entry is the old one, once v is its value.

@@ -1,6 +1,6 @@
 -- What entries and walks keep of their places holds in one way only.
 use Rattle.std.specs.Prelude.{ℕ, List, [], ◌∷◌, Some, None}
-use Rattle.std.specs.Coded.{×_prop, Unit-prop, le_prop}
+use Rattle.std.specs.Coded.{×_prop, Π_prop, Unit-prop, le_prop}
 use Rattle.std.proofs.Props.{props}
 use Rattle.std.specs.declared.cmp.Ordering.{Ordering}
 use Rattle.fc_tree_node.specs.declared.node.Node.{Node}
@@ -10,6 +10,7 @@ use Rattle.fc_tree_node.specs.Place.{IsPlace}
 use Rattle.fc_map.specs.Entries.{Map}
 use Rattle.fc_tree_cursor.specs.Gap.{IsGapIn, AreEndsIn}
 use Rattle.fc_tree_node.specs.TreePlace.{IsPlaceIn}
+use Rattle.fc_map.specs.KeptPlace.{IsKeptPlace, all_written}
 use Rattle.fc_map.specs.Place.{IsOpenAt}
 
 module _ {K V Z : Type 0} where
@@ -25,9 +26,13 @@ module _ {K V Z : Type 0} where
   end-prop (i ∷ j ∷ path) n = ×_prop le_prop (end-prop (j ∷ path) (child_at n i))
 
   -- That a path leads to a pair of a map.
-  pub place-prop : (m : Map K V Z) (path : List ℕ) → IsProp (IsPlaceIn m path)
+  place-prop : (m : Map K V Z) (path : List ℕ) → IsProp (IsPlaceIn m path)
   place-prop None path = λ x. absurd x
   place-prop (Some root) path = end-prop path root
+
+  -- That it does so whatever values are written there.
+  pub kept-prop : (m : Map K V Z) (path : List ℕ) → IsProp (IsKeptPlace m path)
+  kept-prop m path = Π_prop (λ values. place-prop (all_written m path values) path)
 
   -- That a path leads to the gap of a key in a map.
   pub open-prop : (cmp : K → K → Ordering) (k : K) (m : Map K V Z) (path : List ℕ) → IsProp (IsOpenAt cmp k m path)

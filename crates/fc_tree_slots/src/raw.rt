@@ -1,4 +1,4 @@
-//! Raw memory: the one file whose functions follow a pointer.
+//! Raw memory: here, in `at_start`, and nowhere else, functions follow a pointer.
 ghost use Rattle.std.specs.Prelude.{◌≡◌, ◌<◌, List, Option, Some, None, map, length, take, replicate, get_or, slice_set, IfOk};
 ghost use Rattle.std.specs.Borrow.{sem};
 ghost use Rattle.std.specs.Vec.Ownership.{FitsInBlock};

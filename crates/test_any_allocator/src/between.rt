@@ -1,6 +1,6 @@
 //! Calls on two collections, each in a budget of its own.
-use crate::items::{Items, has_items, items};
-use crate::numbers::{Numbers, holds, numbers};
+use crate::items::{Items, fill_set, has_items, items};
+use crate::numbers::{Numbers, fill, holds, numbers};
 use crate::sizes::{AMPLE, CAPACITY, INNER, LEAF, SET_INNER, SET_LEAF};
 use fc_base::TryReserveError;
 use fc_budget::Budget;
@@ -15,7 +15,27 @@ fn out(a: &Budget<Global>, b: &Budget<Global>) -> Out {
     (a.used(), b.used())
 }
 
-// What is out where a map in `a` has so many numbers, and takes over a full leaf of them from a map in `b`.
+// How many numbers a map has, and the first of those that it takes over, as far apart.
+#[derive(Clone, Copy)]
+struct Run {
+    count: u64,
+    first: u64,
+    step: u64,
+}
+
+// Whether a map is whole that takes over a full leaf of numbers from another one.
+fn takes_over<'a>(
+    map: &mut Numbers<'a>,
+    other: &mut Numbers<'a>,
+    run: Run,
+) -> Result<bool, TryReserveError> {
+    fill(map, 0, run.count, run.step)?;
+    fill(other, run.first, CAPACITY, run.step)?;
+    map.append(other)?;
+    Ok(holds(map, 0, run.count.wrapping_add(CAPACITY), 1) && other.is_empty())
+}
+
+// What is out then, of a map in `a` and one in `b`.
 fn out_of_append(
     a: &Budget<Global>,
     b: &Budget<Global>,
@@ -23,11 +43,12 @@ fn out_of_append(
     first: u64,
     step: u64,
 ) -> Result<(bool, Out), TryReserveError> {
-    let mut map = numbers(a, 0, count, step)?;
-    let mut other = numbers(b, first, CAPACITY, step)?;
-    map.append(&mut other)?;
-    let is_whole = holds(&map, 0, count.wrapping_add(CAPACITY), 1) && other.is_empty();
-    Ok((is_whole, out(a, b)))
+    let mut map = Numbers::new(a);
+    let mut other = Numbers::new(b);
+    match takes_over(&mut map, &mut other, Run { count, first, step }) {
+        Ok(is_whole) => Ok((is_whole, out(a, b))),
+        Err(error) => Err(error),
+    }
 }
 
 // The other's budget has no byte left. To an empty map the other's leaf goes as it is, and is still out of its budget; where all keys lie
@@ -54,7 +75,7 @@ fn an_append_asks_the_maps_own_budget(rt: HostRuntime) -> Result<(), Fail> {
 
 // What is out where an empty map in `a` took over a full leaf from a map in `b`, and one more number went in.
 fn out_behind_append(a: &Budget<Global>, b: &Budget<Global>) -> Result<Out, TryReserveError> {
-    let mut map: Numbers<'_> = numbers(a, 0, 0, 1)?;
+    let mut map = Numbers::new(a);
     map.append(&mut numbers(b, 0, CAPACITY, 1)?)?;
     map.try_insert(CAPACITY, CAPACITY)?;
     Ok(out(a, b))
@@ -64,7 +85,7 @@ fn out_behind_append_of_sets(
     a: &Budget<Global>,
     b: &Budget<Global>,
 ) -> Result<Out, TryReserveError> {
-    let mut set: Items<'_> = items(a, 0, 0, 1)?;
+    let mut set = Items::new(a);
     set.append(&mut items(b, 0, CAPACITY, 1)?)?;
     set.try_insert(CAPACITY)?;
     Ok(out(a, b))
@@ -83,36 +104,92 @@ fn what_came_from_another_budget_grows_in_its_own(rt: HostRuntime) -> Result<(),
     Ok(())
 }
 
-// Takes all items of a set in `b` over into one in `a`, by turns.
+// Takes all items of another set over, by turns.
+fn takes_over_items<'a>(
+    set: &mut Items<'a>,
+    other: &mut Items<'a>,
+) -> Result<bool, TryReserveError> {
+    fill_set(set, 0, CAPACITY, 2)?;
+    fill_set(other, 1, CAPACITY, 2)?;
+    set.append(other)?;
+    Ok(has_items(set, 0, CAPACITY.wrapping_mul(2), 1) && other.is_empty())
+}
+
+// What is out then, of a set in `a` and one in `b`.
 fn out_of_set_append(
     a: &Budget<Global>,
     b: &Budget<Global>,
 ) -> Result<(bool, Out), TryReserveError> {
-    let mut set = items(a, 0, CAPACITY, 2)?;
-    let mut other = items(b, 1, CAPACITY, 2)?;
-    set.append(&mut other)?;
-    let is_whole = has_items(&set, 0, CAPACITY.wrapping_mul(2), 1) && other.is_empty();
-    Ok((is_whole, out(a, b)))
+    let mut set = Items::new(a);
+    let mut other = Items::new(b);
+    match takes_over_items(&mut set, &mut other) {
+        Ok(is_whole) => Ok((is_whole, out(a, b))),
+        Err(error) => Err(error),
+    }
 }
 
-// What is out of both beside a set of one leaf that an operation made of one of a leaf in `a` and one of a leaf in `b`.
+// What is out of both budgets beside the set that an operation made.
+fn out_of_sub<'a>(
+    a: &Budget<Global>,
+    b: &Budget<Global>,
+    set: &Items<'a>,
+    other: &Items<'a>,
+) -> Result<Out, TryReserveError> {
+    let _made = set.sub(other)?;
+    Ok(out(a, b))
+}
+
+fn out_of_and<'a>(
+    a: &Budget<Global>,
+    b: &Budget<Global>,
+    set: &Items<'a>,
+    other: &Items<'a>,
+) -> Result<Out, TryReserveError> {
+    let _made = set.bitand(other)?;
+    Ok(out(a, b))
+}
+
+fn out_of_xor<'a>(
+    a: &Budget<Global>,
+    b: &Budget<Global>,
+    set: &Items<'a>,
+    other: &Items<'a>,
+) -> Result<Out, TryReserveError> {
+    let _made = set.bitxor(other)?;
+    Ok(out(a, b))
+}
+
+fn out_of_or<'a>(
+    a: &Budget<Global>,
+    b: &Budget<Global>,
+    set: &Items<'a>,
+    other: &Items<'a>,
+) -> Result<Out, TryReserveError> {
+    let _made = set.bitor(other)?;
+    Ok(out(a, b))
+}
+
+// Of a set of one leaf in `a` and one of a leaf in `b`.
+fn out_of_each<'a>(
+    a: &Budget<Global>,
+    b: &Budget<Global>,
+    set: &mut Items<'a>,
+    other: &mut Items<'a>,
+) -> Result<[Out; 4], TryReserveError> {
+    fill_set(set, 0, 10, 1)?;
+    fill_set(other, 5, 10, 1)?;
+    Ok([
+        out_of_sub(a, b, set, other)?,
+        out_of_and(a, b, set, other)?,
+        out_of_xor(a, b, set, other)?,
+        out_of_or(a, b, set, other)?,
+    ])
+}
+
 fn out_of_operators(a: &Budget<Global>, b: &Budget<Global>) -> Result<[Out; 4], TryReserveError> {
-    let set: Items<'_> = items(a, 0, 10, 1)?;
-    let other: Items<'_> = items(b, 5, 10, 1)?;
-    let mut seen = [(0, 0); 4];
-    let made = set.sub(&other)?;
-    seen[0] = out(a, b);
-    drop(made);
-    let made = set.bitand(&other)?;
-    seen[1] = out(a, b);
-    drop(made);
-    let made = set.bitxor(&other)?;
-    seen[2] = out(a, b);
-    drop(made);
-    let made = set.bitor(&other)?;
-    seen[3] = out(a, b);
-    drop(made);
-    Ok(seen)
+    let mut set = Items::new(a);
+    let mut other = Items::new(b);
+    out_of_each(a, b, &mut set, &mut other)
 }
 
 // The right side's budget has no byte left, and needs none.

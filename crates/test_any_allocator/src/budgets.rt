@@ -1,8 +1,9 @@
 //! What fits into one budget, and into a budget over another.
 use crate::heaps::filled;
-use crate::items::{Items, items};
-use crate::numbers::{Numbers, numbers};
+use crate::items::{Items, fill_set};
+use crate::numbers::{Numbers, fill, numbers};
 use crate::sizes::{AMPLE, CAPACITY, INNER, LEAF, SET_LEAF};
+use fc_base::TryReserveError;
 use fc_budget::Budget;
 use std::alloc::Global;
 use std::test::Fail;
@@ -45,32 +46,51 @@ fn goes_into_set(set: &mut Items<'_>, number: u64) -> bool {
     set.try_insert(number).is_ok()
 }
 
+// Which of them take one more number.
+fn which_take(a: &mut Numbers<'_>, b: &mut Numbers<'_>, s: &mut Items<'_>) -> (bool, bool, bool) {
+    (goes_in(a, 100), goes_in(b, 100), goes_into_set(s, 100))
+}
+
+// Whether full leaves leave nothing, none takes one more, and where one gave a number up it alone does.
+fn are_full(
+    budget: &Budget<Global>,
+    a: &mut Numbers<'_>,
+    b: &mut Numbers<'_>,
+    s: &mut Items<'_>,
+) -> Result<bool, TryReserveError> {
+    fill(a, 0, CAPACITY, 1)?;
+    fill(b, 0, CAPACITY, 2)?;
+    fill_set(s, 0, CAPACITY, 3)?;
+    let is_full = budget.left() == 0;
+    let first = which_take(a, b, s);
+    a.remove(&0);
+    let second = which_take(a, b, s);
+    Ok(is_full && (first, second) == ((false, false, false), (true, false, false)))
+}
+
+fn has_room_at_last<'a>(
+    budget: &'a Budget<Global>,
+    a: &mut Numbers<'a>,
+    mut b: Numbers<'a>,
+    s: &mut Items<'a>,
+) -> Result<bool, TryReserveError> {
+    let are_all = are_full(budget, a, &mut b, s)?;
+    drop(b);
+    let left = budget.left();
+    Ok(are_all && left == LEAF && numbers(budget, 0, CAPACITY, 1).is_ok())
+}
+
 // A leaf for each of two maps and a set is all that the budget has. Once one of them is dropped, another map has the bytes of its leaf.
+fn is_shared(budget: &Budget<Global>) -> Result<bool, TryReserveError> {
+    let mut a = Numbers::new(budget);
+    let mut s = Items::new(budget);
+    has_room_at_last(budget, &mut a, Numbers::new(budget), &mut s)
+}
+
 #[test]
 fn two_maps_and_a_set_share_a_budget(rt: HostRuntime) -> Result<(), Fail> {
     let budget = Budget::new(rt.alloc(), 2 * LEAF + SET_LEAF);
-    let mut a = numbers(&budget, 0, CAPACITY, 1)?;
-    let mut b = numbers(&budget, 0, CAPACITY, 2)?;
-    let mut s = items(&budget, 0, CAPACITY, 3)?;
-    let is_full = budget.left() == 0;
-    let first = (
-        goes_in(&mut a, 100),
-        goes_in(&mut b, 100),
-        goes_into_set(&mut s, 100),
-    );
-    a.remove(&0);
-    let second = (
-        goes_in(&mut a, 100),
-        goes_in(&mut b, 100),
-        goes_into_set(&mut s, 100),
-    );
-    drop(b);
-    let left = budget.left();
-    let third = numbers(&budget, 0, CAPACITY, 1).is_ok();
-    drop(a);
-    drop(s);
-    assert!(rt; is_full && third && left == LEAF);
-    assert!(rt; (first, second) == ((false, false, false), (true, false, false)));
+    assert!(rt; is_shared(&budget)?);
     assert!(rt; budget.used() == 0);
     Ok(())
 }
@@ -82,6 +102,13 @@ fn filled_below(outer: &Budget<Global>) -> (usize, usize) {
     (count, outer.used())
 }
 
+// How many bytes are out of a budget where a map of a leaf stands in one over it.
+fn out_of_a_map(outer: &Budget<Global>) -> Result<usize, TryReserveError> {
+    let inner = Budget::new(outer, LEAF);
+    let _map = numbers(&inner, 0, CAPACITY, 1)?;
+    Ok(outer.used())
+}
+
 #[test]
 fn a_map_over_a_budget_over_a_budget_takes_of_both(rt: HostRuntime) -> Result<(), Fail> {
     let outer = Budget::new(rt.alloc(), AMPLE);
@@ -89,10 +116,7 @@ fn a_map_over_a_budget_over_a_budget_takes_of_both(rt: HostRuntime) -> Result<()
     let narrow_outer = Budget::new(rt.alloc(), LEAF);
     let narrow = filled_below(&narrow_outer);
     assert!(rt; (wide, narrow) == ((114, 0), (15, 0)));
-    let inner = Budget::new(&outer, LEAF);
-    let map = numbers(&inner, 0, CAPACITY, 1)?;
-    let out = outer.used();
-    drop(map);
+    let out = out_of_a_map(&outer)?;
     assert!(rt; (out, outer.used()) == (LEAF, 0));
     Ok(())
 }

@@ -130,15 +130,19 @@ fn puts_in_ready(
     }
 }
 
+// Whether the map has the number then, and how many bytes were taken for it and are out.
+fn out_of_ready(budget: &Budget<Global>) -> Result<(bool, usize, usize), TryReserveError> {
+    let mut map = numbers(budget, 0, TWO_LEVELS, 1)?;
+    let before = budget.used();
+    let (taken, is_put) = puts_in_ready(budget, &mut map, TWO_LEVELS)?;
+    let is_right = is_put && holds(&map, 0, TWO_LEVELS + 1, 1);
+    Ok((is_right, taken, budget.used().wrapping_sub(before)))
+}
+
 #[test]
 fn an_entry_that_was_made_ready_takes_nothing_more(rt: HostRuntime) -> Result<(), Fail> {
     let budget = Budget::new(rt.alloc(), AMPLE);
-    let mut map = numbers(&budget, 0, TWO_LEVELS, 1)?;
-    let before = budget.used();
-    let (taken, is_put) = puts_in_ready(&budget, &mut map, TWO_LEVELS)?;
-    let is_right = is_put && holds(&map, 0, TWO_LEVELS + 1, 1);
-    let out = budget.used().wrapping_sub(before);
-    drop(map);
+    let (is_right, taken, out) = out_of_ready(&budget)?;
     assert!(rt; is_right);
     assert!(rt; (taken, out) == (LEAF + 2 * INNER, LEAF + 2 * INNER));
     assert!(rt; budget.used() == 0);
@@ -160,16 +164,21 @@ fn is_given_back<A: Handle>(
     }
 }
 
-#[test]
-fn nodes_that_are_not_used_go_back_to_the_budget(rt: HostRuntime) -> Result<(), Fail> {
-    let budget = Budget::new(rt.alloc(), AMPLE);
-    let mut map = numbers(&budget, 0, TWO_LEVELS, 1)?;
+// Whether the key came back and the map is as it was, and how many bytes more are out.
+fn out_of_given_back(budget: &Budget<Global>) -> Result<(bool, usize), TryReserveError> {
+    let mut map = numbers(budget, 0, TWO_LEVELS, 1)?;
     let before = budget.used();
     let is_back = is_given_back(&mut map, TWO_LEVELS)?;
     let after = budget.used();
     let is_right = is_back && holds(&map, 0, TWO_LEVELS, 1);
-    drop(map);
+    Ok((is_right, after.wrapping_sub(before)))
+}
+
+#[test]
+fn nodes_that_are_not_used_go_back_to_the_budget(rt: HostRuntime) -> Result<(), Fail> {
+    let budget = Budget::new(rt.alloc(), AMPLE);
+    let (is_right, more) = out_of_given_back(&budget)?;
     assert!(rt; is_right);
-    assert!(rt; (after, budget.used()) == (before, 0));
+    assert!(rt; (more, budget.used()) == (0, 0));
     Ok(())
 }

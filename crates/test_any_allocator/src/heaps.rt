@@ -1,11 +1,12 @@
 //! Maps and sets in heaps of the toolchain's crates.
-use crate::items::{has_items, items};
-use crate::numbers::{holds, numbers};
+use crate::items::{fill_set, has_items};
+use crate::numbers::{fill, holds};
 use crate::sizes::AMPLE;
 use bumpalo::Bump;
 use fc_base::{Handle, TryReserveError};
 use fc_budget::Budget;
 use fc_map::map::BTreeMap;
+use fc_set::set::BTreeSet;
 use linked_list_allocator::LocalHeap;
 use std::alloc::Global;
 use std::test::Fail;
@@ -34,15 +35,39 @@ fn a_heap_of_4096_bytes_has_room_for_114_pairs(rt: HostRuntime) -> Result<(), Fa
     Ok(())
 }
 
-// Whether a map, its copy, a set, and what is left of it are right in that memory.
-fn are_right<A: Handle>(alloc: A) -> Result<bool, TryReserveError> {
-    let mut map = numbers(alloc, 0, 300, 2)?;
-    let mut other = numbers(alloc, 1, 300, 2)?;
-    let mut set = items(alloc, 0, 300, 1)?;
-    map.append(&mut other)?;
+// Whether two maps and a set are filled, and the maps are joined.
+fn are_joined<A: Handle>(
+    map: &mut BTreeMap<u64, u64, A>,
+    other: &mut BTreeMap<u64, u64, A>,
+    set: &mut BTreeSet<u64, A>,
+) -> Result<bool, TryReserveError> {
+    fill(map, 0, 300, 2)?;
+    fill(other, 1, 300, 2)?;
+    fill_set(set, 0, 300, 1)?;
+    map.append(other)?;
+    Ok(holds(map, 0, 600, 1) && is_cut_and_made_again(set)?)
+}
+
+// Whether a cut leaves a set what is below, and a union with the rest has all.
+fn is_cut_and_made_again<A: Handle>(set: &mut BTreeSet<u64, A>) -> Result<bool, TryReserveError> {
     let rest = set.try_split_off(&100)?;
-    let both = set.bitor(&rest)?;
-    Ok(holds(&map, 0, 600, 1) && has_items(&set, 0, 100, 1) && has_items(&both, 0, 300, 1))
+    Ok(has_items(set, 0, 100, 1) && is_union_whole(set, &rest)?)
+}
+
+fn is_union_whole<A: Handle>(
+    set: &BTreeSet<u64, A>,
+    rest: &BTreeSet<u64, A>,
+) -> Result<bool, TryReserveError> {
+    let both = set.bitor(rest)?;
+    Ok(has_items(&both, 0, 300, 1))
+}
+
+// Whether a map, a set, what is left of it and a union are right in that memory.
+fn are_right<A: Handle>(alloc: A) -> Result<bool, TryReserveError> {
+    let mut map = BTreeMap::new(alloc);
+    let mut other = BTreeMap::new(alloc);
+    let mut set = BTreeSet::new(alloc);
+    are_joined(&mut map, &mut other, &mut set)
 }
 
 #[test]

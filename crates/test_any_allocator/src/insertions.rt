@@ -1,7 +1,7 @@
 //! Insertions of one pair or item, and of a pair into each of two maps.
 use crate::items::{Items, has_items, items};
 use crate::least::{Call, Fate, done, least, refused};
-use crate::numbers::{Numbers, holds, numbers};
+use crate::numbers::{Numbers, fill, holds, numbers};
 use crate::sizes::{AMPLE, CAPACITY, INNER, LEAF, SET_INNER, SET_LEAF, TWO_LEVELS};
 use fc_base::TryReserveError;
 use fc_budget::Budget;
@@ -162,22 +162,25 @@ impl Call for Both<'_> {
     }
 }
 
+fn least_of_filled(budget: &Budget<Global>, both: &mut Both<'_>) -> Result<usize, TryReserveError> {
+    let (first, second) = (both.first, both.second);
+    fill(&mut both.a, 0, first, 1)?;
+    fill(&mut both.b, 0, second, 1)?;
+    least(budget, both)
+}
+
 fn least_of_both(
     budget: &Budget<Global>,
     first: u64,
     second: u64,
 ) -> Result<usize, TryReserveError> {
-    let a = numbers(budget, 0, first, 1)?;
-    let b = numbers(budget, 0, second, 1)?;
-    least(
-        budget,
-        &mut Both {
-            a,
-            b,
-            first,
-            second,
-        },
-    )
+    let mut both = Both {
+        a: Numbers::new(budget),
+        b: Numbers::new(budget),
+        first,
+        second,
+    };
+    least_of_filled(budget, &mut both)
 }
 
 // Whether pairs go in behind so many of one map and each length of the other with as many bytes as two insertions take.

@@ -7,6 +7,19 @@ use std::alloc::Global;
 
 pub(crate) type Items<'a> = BTreeSet<u64, &'a Budget<Global>>;
 
+/// Puts so many numbers in.
+pub(crate) fn fill_set<A: Handle>(
+    set: &mut BTreeSet<u64, A>,
+    first: u64,
+    count: u64,
+    step: u64,
+) -> Result<(), TryReserveError> {
+    for place in 0..count {
+        set.try_insert(number_at(first, step, place))?;
+    }
+    Ok(())
+}
+
 /// So many numbers.
 pub(crate) fn items<A: Handle>(
     alloc: A,
@@ -15,9 +28,7 @@ pub(crate) fn items<A: Handle>(
     step: u64,
 ) -> Result<BTreeSet<u64, A>, TryReserveError> {
     let mut set = BTreeSet::new(alloc);
-    for place in 0..count {
-        set.try_insert(number_at(first, step, place))?;
-    }
+    fill_set(&mut set, first, count, step)?;
     Ok(set)
 }
 

@@ -11,6 +11,20 @@ pub(crate) fn number_at(first: u64, step: u64, place: u64) -> u64 {
     place.wrapping_mul(step).wrapping_add(first)
 }
 
+/// Puts so many numbers in, each with itself.
+pub(crate) fn fill<A: Handle>(
+    map: &mut BTreeMap<u64, u64, A>,
+    first: u64,
+    count: u64,
+    step: u64,
+) -> Result<(), TryReserveError> {
+    for place in 0..count {
+        let number = number_at(first, step, place);
+        map.try_insert(number, number)?;
+    }
+    Ok(())
+}
+
 /// So many numbers, each with itself.
 pub(crate) fn numbers<A: Handle>(
     alloc: A,
@@ -19,10 +33,7 @@ pub(crate) fn numbers<A: Handle>(
     step: u64,
 ) -> Result<BTreeMap<u64, u64, A>, TryReserveError> {
     let mut map = BTreeMap::new(alloc);
-    for place in 0..count {
-        let number = number_at(first, step, place);
-        map.try_insert(number, number)?;
-    }
+    fill(&mut map, first, count, step)?;
     Ok(map)
 }
 

@@ -1,5 +1,5 @@
 //! Sets made of copies of two others' items.
-use crate::items::{Items, has_items, items};
+use crate::items::{Items, fill_set, has_items, items};
 use crate::least::{Call, Fate, done, least, refused};
 use crate::sizes::{AMPLE, NODE, SET_INNER, SET_LEAF};
 use fc_base::TryReserveError;
@@ -36,18 +36,11 @@ struct Operation<'a> {
 }
 
 impl<'a> Operation<'a> {
-    fn try_new(
-        budget: &'a Budget<Global>,
-        operator: Operator,
-    ) -> Result<Operation<'a>, TryReserveError> {
-        let set = items(budget, 0, 20, 1)?;
-        let mut other = items(budget, 0, 10, 1)?;
-        other.append(&mut items(budget, 20, 10, 1)?)?;
-        Ok(Operation {
-            set,
-            other,
-            operator,
-        })
+    fn fill(&mut self, budget: &'a Budget<Global>) -> Result<(), TryReserveError> {
+        fill_set(&mut self.set, 0, 20, 1)?;
+        fill_set(&mut self.other, 0, 10, 1)?;
+        let mut last = items(budget, 20, 10, 1)?;
+        self.other.append(&mut last)
     }
 
     fn answer(&self) -> Result<Items<'a>, TryReserveError> {
@@ -72,8 +65,21 @@ impl Call for Operation<'_> {
     }
 }
 
+fn least_of_filled<'a>(
+    budget: &'a Budget<Global>,
+    operation: &mut Operation<'a>,
+) -> Result<usize, TryReserveError> {
+    operation.fill(budget)?;
+    least(budget, operation)
+}
+
 fn least_of(budget: &Budget<Global>, operator: Operator) -> Result<usize, TryReserveError> {
-    least(budget, &mut Operation::try_new(budget, operator)?)
+    let mut operation = Operation {
+        set: Items::new(budget),
+        other: Items::new(budget),
+        operator,
+    };
+    least_of_filled(budget, &mut operation)
 }
 
 // Ten numbers fill no leaf; behind one leaf of 15 come a second one, and a root behind the list that it waits in.

@@ -101,14 +101,32 @@ fn put<'a>(map: &mut Numbers<'a>, reservation: &mut NumberReservation<'a>, numbe
 }
 
 // Puts so many numbers behind 15 with no byte left but the room's.
-fn puts_all(budget: &Budget<Global>, count: u64) -> Result<bool, TryReserveError> {
-    let mut map = numbers(budget, 0, CAPACITY, 1)?;
-    let mut reservation: NumberReservation<'_> = map.try_reserve_nodes(count as usize)?;
+fn put_all<'a>(
+    budget: &Budget<Global>,
+    map: &mut Numbers<'a>,
+    reservation: &mut NumberReservation<'a>,
+    count: u64,
+) -> Result<(), TryReserveError> {
     let _rest = all_but(budget, 0)?;
     for place in 0..count {
-        put(&mut map, &mut reservation, CAPACITY.wrapping_add(place));
+        put(map, reservation, CAPACITY.wrapping_add(place));
     }
-    Ok(reservation.places() == 0 && holds(&map, 0, CAPACITY.wrapping_add(count), 1))
+    Ok(())
+}
+
+fn are_put<'a>(
+    budget: &Budget<Global>,
+    map: &mut Numbers<'a>,
+    count: u64,
+) -> Result<bool, TryReserveError> {
+    let mut reservation: NumberReservation<'a> = map.try_reserve_nodes(count as usize)?;
+    put_all(budget, map, &mut reservation, count)?;
+    Ok(reservation.places() == 0 && holds(map, 0, CAPACITY.wrapping_add(count), 1))
+}
+
+fn puts_all(budget: &Budget<Global>, count: u64) -> Result<bool, TryReserveError> {
+    let mut map = numbers(budget, 0, CAPACITY, 1)?;
+    are_put(budget, &mut map, count)
 }
 
 #[test]
@@ -125,14 +143,32 @@ fn put_item<'a>(set: &mut Items<'a>, reservation: &mut ItemReservation<'a>, numb
     }
 }
 
-fn puts_all_items(budget: &Budget<Global>, count: u64) -> Result<bool, TryReserveError> {
-    let mut set = items(budget, 0, CAPACITY, 1)?;
-    let mut reservation: ItemReservation<'_> = set.try_reserve_nodes(count as usize)?;
+fn put_all_items<'a>(
+    budget: &Budget<Global>,
+    set: &mut Items<'a>,
+    reservation: &mut ItemReservation<'a>,
+    count: u64,
+) -> Result<(), TryReserveError> {
     let _rest = all_but(budget, 0)?;
     for place in 0..count {
-        put_item(&mut set, &mut reservation, CAPACITY.wrapping_add(place));
+        put_item(set, reservation, CAPACITY.wrapping_add(place));
     }
-    Ok(reservation.places() == 0 && has_items(&set, 0, CAPACITY.wrapping_add(count), 1))
+    Ok(())
+}
+
+fn items_are_put<'a>(
+    budget: &Budget<Global>,
+    set: &mut Items<'a>,
+    count: u64,
+) -> Result<bool, TryReserveError> {
+    let mut reservation: ItemReservation<'a> = set.try_reserve_nodes(count as usize)?;
+    put_all_items(budget, set, &mut reservation, count)?;
+    Ok(reservation.places() == 0 && has_items(set, 0, CAPACITY.wrapping_add(count), 1))
+}
+
+fn puts_all_items(budget: &Budget<Global>, count: u64) -> Result<bool, TryReserveError> {
+    let mut set = items(budget, 0, CAPACITY, 1)?;
+    items_are_put(budget, &mut set, count)
 }
 
 #[test]

@@ -9,13 +9,12 @@ use std::test::Fail;
 
 type List<'a> = TryVec<u64, &'a Budget<Global>>;
 
-// So many numbers from the first on, pushed one after another.
-fn list(budget: &Budget<Global>, first: u64, count: u64) -> Result<List<'_>, TryReserveError> {
-    let mut made = TryVec::new(budget);
+// Pushes so many numbers from the first on, one after another.
+fn push_all(list: &mut List<'_>, first: u64, count: u64) -> Result<(), TryReserveError> {
     for place in 0..count {
-        made.push(first.wrapping_add(place))?;
+        list.push(first.wrapping_add(place))?;
     }
-    Ok(made)
+    Ok(())
 }
 
 // Whether these are so many numbers from the first on.
@@ -82,16 +81,24 @@ impl Call for Longer<'_> {
     }
 }
 
+fn least_of_filled(
+    budget: &Budget<Global>,
+    longer: &mut Longer<'_>,
+) -> Result<usize, TryReserveError> {
+    let count = longer.count;
+    push_all(&mut longer.list, 0, count)?;
+    push_all(&mut longer.next, count, 3)?;
+    least(budget, longer)
+}
+
 fn least_of(budget: &Budget<Global>, count: u64, way: Way) -> Result<usize, TryReserveError> {
-    let list_of_all = list(budget, 0, count)?;
-    let next = list(budget, count, 3)?;
     let mut longer = Longer {
-        list: list_of_all,
-        next,
+        list: TryVec::new(budget),
+        next: TryVec::new(budget),
         count,
         way,
     };
-    least(budget, &mut longer)
+    least_of_filled(budget, &mut longer)
 }
 
 // Of lists of none, four, five and eight numbers.

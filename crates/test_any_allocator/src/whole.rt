@@ -1,7 +1,7 @@
 //! Whole maps and sets: joined, cut in two, and copied.
-use crate::items::{Items, has_items, items};
+use crate::items::{Items, fill_set, has_items, items};
 use crate::least::{Call, Fate, done, least, refused};
-use crate::numbers::{Numbers, holds, numbers};
+use crate::numbers::{Numbers, fill, holds, numbers};
 use crate::sizes::{AMPLE, CAPACITY, INNER, LEAF, NODE, SET_INNER, SET_LEAF};
 use fc_base::{TryClone, TryReserveError};
 use fc_budget::Budget;
@@ -31,10 +31,23 @@ impl Call for Joining<'_> {
     }
 }
 
+fn least_of_filled(
+    budget: &Budget<Global>,
+    joining: &mut Joining<'_>,
+) -> Result<usize, TryReserveError> {
+    let count = joining.count;
+    fill(&mut joining.map, 0, count, 2)?;
+    fill(&mut joining.other, 1, count, 2)?;
+    least(budget, joining)
+}
+
 fn least_of_joining(budget: &Budget<Global>, count: u64) -> Result<usize, TryReserveError> {
-    let map = numbers(budget, 0, count, 2)?;
-    let other = numbers(budget, 1, count, 2)?;
-    least(budget, &mut Joining { map, other, count })
+    let mut joining = Joining {
+        map: Numbers::new(budget),
+        other: Numbers::new(budget),
+        count,
+    };
+    least_of_filled(budget, &mut joining)
 }
 
 // Of ten one leaf, and of 170 two and a root, each behind the list that it waits in. The others are leaves of both maps.
@@ -74,10 +87,23 @@ impl Call for SetJoining<'_> {
     }
 }
 
+fn least_of_filled_sets(
+    budget: &Budget<Global>,
+    joining: &mut SetJoining<'_>,
+) -> Result<usize, TryReserveError> {
+    let count = joining.count;
+    fill_set(&mut joining.set, 0, count, 2)?;
+    fill_set(&mut joining.other, 1, count, 2)?;
+    least(budget, joining)
+}
+
 fn least_of_set_joining(budget: &Budget<Global>, count: u64) -> Result<usize, TryReserveError> {
-    let set = items(budget, 0, count, 2)?;
-    let other = items(budget, 1, count, 2)?;
-    least(budget, &mut SetJoining { set, other, count })
+    let mut joining = SetJoining {
+        set: Items::new(budget),
+        other: Items::new(budget),
+        count,
+    };
+    least_of_filled_sets(budget, &mut joining)
 }
 
 #[test]

@@ -3,6 +3,7 @@ use fc_base::TryReserveError;
 use fc_hash::TryHashMap;
 use std::alloc::Global;
 use std::collections::hash_map::Entry;
+use std::process::Abort;
 use std::test::Fail;
 
 // How often each word comes.
@@ -20,15 +21,19 @@ fn put(map: &mut TryHashMap<u64, u64>) -> Result<(), TryReserveError> {
     Ok(())
 }
 
+fn are_counted(rt: &impl Abort, alloc: Global) -> Result<(), Fail> {
+    let counts = tally(alloc, &[5, 6, 5, 5])?;
+    assert!(rt; counts.len() == 2 && counts.get(&5).copied() == Some(3));
+    assert!(rt; counts.get(&6).copied() == Some(1));
+    Ok(())
+}
+
 #[test]
 fn an_entry_puts_a_value(rt: HostRuntime) -> Result<(), Fail> {
     let mut map = TryHashMap::new(rt.alloc());
     put(&mut map)?;
     assert!(rt; map.len() == 1 && map.get(&1).copied() == Some(3));
-    let counts = tally(rt.alloc(), &[5, 6, 5, 5])?;
-    assert!(rt; counts.len() == 2 && counts.get(&5).copied() == Some(3));
-    assert!(rt; counts.get(&6).copied() == Some(1));
-    Ok(())
+    are_counted(&rt, rt.alloc())
 }
 
 #[test]
@@ -61,45 +66,75 @@ fn an_entry_is_taken_apart(rt: HostRuntime) -> Result<(), Fail> {
     Ok(())
 }
 
-// The pairs 0 .. 9, each with its double: the keys add up to 45.
-#[test]
-fn walks_of_std_read_and_write(rt: HostRuntime) -> Result<(), Fail> {
-    let mut map = TryHashMap::new(rt.alloc());
+fn fill(map: &mut TryHashMap<u64, u64>) -> Result<(), TryReserveError> {
     for key in 0..10u64 {
         map.insert(key, 0u64)?;
     }
+    Ok(())
+}
+
+fn write_doubles(map: &mut TryHashMap<u64, u64>) {
     for (key, value) in map.iter_mut() {
         *value = *key;
     }
     for value in map.values_mut() {
         *value = value.wrapping_mul(2);
     }
+}
+
+fn sum_of_keys(map: &TryHashMap<u64, u64>) -> u64 {
     let mut keys = 0u64;
     for key in map.keys() {
         keys = keys.wrapping_add(*key);
     }
+    keys
+}
+
+fn sum_of_values(map: &TryHashMap<u64, u64>) -> u64 {
     let mut values = 0u64;
     for value in map.values() {
         values = values.wrapping_add(*value);
     }
-    assert!(rt; keys == 45 && values == 90);
+    values
+}
+
+fn is_cloned(map: &TryHashMap<u64, u64>) -> Result<bool, Fail> {
+    let clone = map.clone()?;
+    Ok(clone == *map)
+}
+
+fn sum_of_cloned_values(map: &TryHashMap<u64, u64>) -> Result<u64, Fail> {
+    let mut values = 0u64;
+    for value in map.clone()?.into_values() {
+        values = values.wrapping_add(value);
+    }
+    Ok(values)
+}
+
+fn sum_of_drained_keys(map: &mut TryHashMap<u64, u64>) -> u64 {
+    let mut keys = 0u64;
+    for (key, _value) in map.drain() {
+        keys = keys.wrapping_add(key);
+    }
+    keys
+}
+
+// The pairs 0 .. 9, each with its double: the keys add up to 45.
+#[test]
+fn walks_of_std_read_and_write(rt: HostRuntime) -> Result<(), Fail> {
+    let mut map = TryHashMap::new(rt.alloc());
+    fill(&mut map)?;
+    write_doubles(&mut map);
+    assert!(rt; sum_of_keys(&map) == 45 && sum_of_values(&map) == 90);
     assert!(rt; map.remove_entry(&3) == Some((3, 6)));
     assert!(rt; map.capacity() >= 9);
     for (key, value) in map.extract_if(|key, _| *key == 4) {
         assert!(rt; key == 4 && value == 8);
     }
     map.shrink_to_fit();
-    assert!(rt; map.len() == 8 && map.clone()? == map);
-    values = 0;
-    for value in map.clone()?.into_values() {
-        values = values.wrapping_add(value);
-    }
-    assert!(rt; values == 76);
-    keys = 0;
-    for (key, _value) in map.drain() {
-        keys = keys.wrapping_add(key);
-    }
-    assert!(rt; keys == 38 && map.is_empty());
+    assert!(rt; map.len() == 8 && is_cloned(&map)?);
+    assert!(rt; sum_of_cloned_values(&map)? == 76);
+    assert!(rt; sum_of_drained_keys(&mut map) == 38 && map.is_empty());
     Ok(())
 }
 

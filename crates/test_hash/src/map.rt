@@ -117,15 +117,23 @@ fn a_walk_gives_each_pair_once(rt: HostRuntime) -> Result<(), Fail> {
     Ok(())
 }
 
+fn copy_holds_tens(map: &TryHashMap<u64, u64>, end: u64) -> Result<bool, TryReserveError> {
+    let copy = map.try_clone()?;
+    Ok(holds_tens(&copy, end))
+}
+
+fn is_copied_with_ten(map: &TryHashMap<u64, u64>) -> Result<bool, TryReserveError> {
+    let one = map.try_clone()?;
+    Ok(one.len() == 1 && one.get(&1).copied() == Some(10))
+}
+
 #[test]
 fn a_copy_has_the_same_pairs(rt: HostRuntime) -> Result<(), Fail> {
-    let empty: TryHashMap<u64, u64> = TryHashMap::default(rt.alloc());
-    assert!(rt; empty.try_clone()?.len() == 0);
+    assert!(rt; copy_holds_tens(&TryHashMap::default(rt.alloc()), 0)?);
     let mut map = TryHashMap::default(rt.alloc());
     map.insert(1u64, 10u64)?;
-    let one = map.try_clone()?;
-    assert!(rt; one.len() == 1 && one.get(&1).copied() == Some(10));
-    assert!(rt; holds_tens(&tens(rt.alloc(), 100)?.try_clone()?, 100));
+    assert!(rt; is_copied_with_ten(&map)?);
+    assert!(rt; copy_holds_tens(&tens(rt.alloc(), 100)?, 100)?);
     Ok(())
 }
 

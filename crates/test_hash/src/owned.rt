@@ -107,22 +107,45 @@ fn keep_even(map: &mut Map) {
     map.retain(|key, _value| **key % 2 == 0);
 }
 
+fn replaced(
+    alloc: Global,
+    map: &mut Map,
+    number: u64,
+    value: u64,
+) -> Result<Option<u64>, TryReserveError> {
+    let (key, value) = pair(alloc, number, value)?;
+    Ok(map.insert(key, value)?.map(|old| *old))
+}
+
+// What is taken out at the number by two removals.
+fn removed_twice(
+    alloc: Global,
+    map: &mut Map,
+    number: u64,
+) -> Result<(Option<u64>, Option<u64>), TryReserveError> {
+    let key = Box::new(alloc, number)?;
+    let first = map.remove(&key).map(|old| *old);
+    Ok((first, map.remove(&key).map(|old| *old)))
+}
+
+fn is_cleared(alloc: Global) -> Result<bool, TryReserveError> {
+    let mut map = collected(pairs(alloc, 3)?, alloc)?;
+    map.clear();
+    Ok(map.is_empty())
+}
+
 // Each call that gives pairs up, or takes a value's place: no block is left.
 #[test]
 fn pairs_that_go_are_dropped(rt: HostRuntime) -> Result<(), Fail> {
     let mut map = collected(pairs(rt.alloc(), 12)?, rt.alloc())?;
     assert!(rt; map.len() == 11 && value_at(rt.alloc(), &map, 0) == Some(7));
-    let (key, value) = pair(rt.alloc(), 3, 8)?;
-    assert!(rt; map.insert(key, value)?.map(|old| *old) == Some(30));
-    let three = Box::new(rt.alloc(), 3)?;
-    assert!(rt; map.remove(&three).map(|old| *old) == Some(8) && map.remove(&three).is_none());
+    assert!(rt; replaced(rt.alloc(), &mut map, 3, 8)? == Some(30));
+    assert!(rt; removed_twice(rt.alloc(), &mut map, 3)? == (Some(8), None));
     keep_even(&mut map);
     assert!(rt; map.len() == 6);
     let mut walk = map.into_iter();
     assert!(rt; walk.next().is_some());
     drop(walk);
-    let mut cleared = collected(pairs(rt.alloc(), 3)?, rt.alloc())?;
-    cleared.clear();
-    assert!(rt; cleared.is_empty());
+    assert!(rt; is_cleared(rt.alloc())?);
     Ok(())
 }

@@ -17,12 +17,15 @@ fn printed(alloc: Global, map: &TryHashMap<u64, u64>) -> Result<String, AllocErr
     format!(in alloc; "{map:?}")
 }
 
+fn prints(alloc: Global, start: u64, end: u64, wanted: &str) -> Result<bool, TryReserveError> {
+    let map = raised(alloc, start, end)?;
+    Ok(printed(alloc, &map)?.as_str() == wanted)
+}
+
 #[test]
 fn a_short_map_prints_its_pairs(rt: HostRuntime) -> Result<(), Fail> {
-    let none = printed(rt.alloc(), &raised(rt.alloc(), 5, 5)?)?;
-    assert!(rt; none.as_str() == "{}");
-    let one = printed(rt.alloc(), &raised(rt.alloc(), 5, 6)?)?;
-    assert!(rt; one.as_str() == "{5: 705}");
+    assert!(rt; prints(rt.alloc(), 5, 5, "{}")?);
+    assert!(rt; prints(rt.alloc(), 5, 6, "{5: 705}")?);
     Ok(())
 }
 

@@ -5,6 +5,7 @@ use fc_base::{TryClone, TryReserveError};
 use fc_hash::TryHashSet;
 use fc_vec::TryCollect;
 use std::alloc::Global;
+use std::process::Abort;
 use std::test::Fail;
 use test_values::{Tagged, is_ample};
 
@@ -66,11 +67,8 @@ fn texts_are_found_by_texts(rt: HostRuntime) -> Result<(), Fail> {
     Ok(())
 }
 
-// 0 .. 9 and 5 .. 14: 5 .. 9 are in both.
-#[test]
-fn two_sets_are_walked_over(rt: HostRuntime) -> Result<(), Fail> {
-    let first = numbers(rt.alloc(), 0, 10)?;
-    let second = numbers(rt.alloc(), 5, 15)?;
+fn are_walked_over(rt: &impl Abort, alloc: Global, first: &TryHashSet<u64>) -> Result<(), Fail> {
+    let second = numbers(alloc, 5, 15)?;
     assert!(rt; counted(first.union(&second)) == (15, 105));
     assert!(rt; counted(first.intersection(&second)) == (5, 35));
     assert!(rt; counted(first.difference(&second)) == (5, 10));
@@ -78,14 +76,61 @@ fn two_sets_are_walked_over(rt: HostRuntime) -> Result<(), Fail> {
     Ok(())
 }
 
+// 0 .. 9 and 5 .. 14: 5 .. 9 are in both.
+#[test]
+fn two_sets_are_walked_over(rt: HostRuntime) -> Result<(), Fail> {
+    let first = numbers(rt.alloc(), 0, 10)?;
+    are_walked_over(&rt, rt.alloc(), &first)
+}
+
+// Two sets of numbers, each from one on and below another, and whether ours lies in theirs, holds it, has nothing in common with it, and is the same.
+struct Row {
+    ours: (u64, u64),
+    theirs: (u64, u64),
+    wanted: (bool, bool, bool, bool),
+}
+
+const ROWS: [Row; 4] = [
+    Row {
+        ours: (3, 6),
+        theirs: (0, 10),
+        wanted: (true, false, false, false),
+    },
+    Row {
+        ours: (0, 10),
+        theirs: (3, 6),
+        wanted: (false, true, false, false),
+    },
+    Row {
+        ours: (0, 10),
+        theirs: (10, 12),
+        wanted: (false, false, true, false),
+    },
+    Row {
+        ours: (0, 10),
+        theirs: (0, 10),
+        wanted: (true, true, false, true),
+    },
+];
+
+fn is_answered(alloc: Global, row: &Row) -> Result<bool, TryReserveError> {
+    let ours = numbers(alloc, row.ours.0, row.ours.1)?;
+    let theirs = numbers(alloc, row.theirs.0, row.theirs.1)?;
+    let (is_subset, is_superset, is_disjoint, is_same) = row.wanted;
+    Ok(
+        ours.is_subset(&theirs) == is_subset
+            && ours.is_superset(&theirs) == is_superset
+            && ours.is_disjoint(&theirs) == is_disjoint
+            && (ours == theirs) == is_same
+            && (ours != theirs) != is_same,
+    )
+}
+
 #[test]
 fn two_sets_are_compared(rt: HostRuntime) -> Result<(), Fail> {
-    let all = numbers(rt.alloc(), 0, 10)?;
-    let some = numbers(rt.alloc(), 3, 6)?;
-    let others = numbers(rt.alloc(), 10, 12)?;
-    assert!(rt; some.is_subset(&all) && !all.is_subset(&some) && all.is_superset(&some));
-    assert!(rt; all.is_disjoint(&others) && !all.is_disjoint(&some));
-    assert!(rt; all == numbers(rt.alloc(), 0, 10)? && all != some);
+    for row in &ROWS {
+        assert!(rt; is_answered(rt.alloc(), row)?);
+    }
     Ok(())
 }
 
@@ -112,12 +157,28 @@ struct Tags {
     tags: TryHashSet<u64>,
 }
 
+fn is_copied(set: &TryHashSet<u64>) -> Result<bool, TryReserveError> {
+    let copy = set.try_clone()?;
+    Ok(copy == *set)
+}
+
+fn is_cloned(set: &TryHashSet<u64>) -> Result<bool, Fail> {
+    let clone = set.clone()?;
+    Ok(clone == *set)
+}
+
+fn are_cloned(tags: &Tags) -> Result<bool, Fail> {
+    let clone = tags.clone()?;
+    Ok(clone.tags == tags.tags)
+}
+
 #[test]
 fn copies_of_sets_have_the_same_items(rt: HostRuntime) -> Result<(), Fail> {
     let set = numbers(rt.alloc(), 0, 100)?;
-    assert!(rt; set.try_clone()? == set && set.clone()? == set);
+    assert!(rt; is_copied(&set)?);
+    assert!(rt; is_cloned(&set)?);
     let tags = Tags { tags: set };
-    assert!(rt; tags.clone()?.tags == tags.tags);
+    assert!(rt; are_cloned(&tags)?);
     Ok(())
 }
 

@@ -68,15 +68,24 @@ fn pairs_are_kept_or_dropped(rt: HostRuntime) -> Result<(), Fail> {
     Ok(())
 }
 
+fn is_same(alloc: Global, map: &Map, end: u64) -> Result<bool, TryReserveError> {
+    let same = collected(alloc, end)?;
+    Ok(*map == same && same == *map)
+}
+
+fn is_other(alloc: Global, map: &Map, end: u64) -> Result<bool, TryReserveError> {
+    let other = collected(alloc, end)?;
+    Ok(*map != other && other != *map)
+}
+
 #[test]
 fn equal_maps(rt: HostRuntime) -> Result<(), Fail> {
     let mut map = TryHashMap::default(rt.alloc());
     extend(&mut map, 2, 4)?;
     extend(&mut map, 0, 3)?;
-    let same = collected(rt.alloc(), 4)?;
-    let fewer = collected(rt.alloc(), 3)?;
-    assert!(rt; map == same && same == map && map != fewer && fewer != map);
-    assert!(rt; write(&mut map, 3, 1) && map != same);
+    assert!(rt; is_same(rt.alloc(), &map, 4)?);
+    assert!(rt; is_other(rt.alloc(), &map, 3)?);
+    assert!(rt; write(&mut map, 3, 1) && is_other(rt.alloc(), &map, 4)?);
     Ok(())
 }
 

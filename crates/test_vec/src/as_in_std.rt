@@ -1,5 +1,5 @@
 //! Calls that a `TryVec` has as std's vector and slice have them.
-use crate::calls::{holds, is_overflow};
+use crate::calls::{holds, is_overflow, of};
 use fc_base::TryReserveError;
 use fc_vec::TryVec;
 use std::alloc::Global;
@@ -7,10 +7,6 @@ use std::cmp::Ordering;
 use std::hash::{DefaultHasher, Hash, Hasher};
 use std::mem::try_take;
 use std::test::Fail;
-
-fn of(alloc: Global, items: &[u64]) -> Result<TryVec<u64>, TryReserveError> {
-    TryVec::try_from_slice(alloc, items)
-}
 
 fn place(v: &TryVec<u64>, item: u64) -> Result<usize, usize> {
     v.binary_search(&item)
@@ -82,6 +78,18 @@ fn sort_by_tens(v: &mut TryVec<u64>) {
     v.sort_unstable_by_key(|item| *item / 10);
 }
 
+fn are_sorted(alloc: Global) -> Result<bool, TryReserveError> {
+    let mut few = of(alloc, &[5, 3, 5, 4])?;
+    sort(&mut few)?;
+    Ok(holds(&few, &[3, 4, 5, 5]))
+}
+
+fn are_sorted_by_tens(alloc: Global) -> Result<bool, TryReserveError> {
+    let mut tens = of(alloc, &[39, 11, 27])?;
+    sort_by_tens(&mut tens);
+    Ok(holds(&tens, &[11, 27, 39]))
+}
+
 #[test]
 fn equal_items_keep_their_order(rt: HostRuntime) -> Result<(), Fail> {
     let mut v = pairs(rt.alloc())?;
@@ -89,12 +97,8 @@ fn equal_items_keep_their_order(rt: HostRuntime) -> Result<(), Fail> {
     assert!(rt; are_in_order(&v, false));
     sort_by_falling_key(&mut v)?;
     assert!(rt; are_in_order(&v, true));
-    let mut few = of(rt.alloc(), &[5, 3, 5, 4])?;
-    sort(&mut few)?;
-    assert!(rt; holds(&few, &[3, 4, 5, 5]));
-    let mut tens = of(rt.alloc(), &[39, 11, 27])?;
-    sort_by_tens(&mut tens);
-    assert!(rt; holds(&tens, &[11, 27, 39]));
+    assert!(rt; are_sorted(rt.alloc())?);
+    assert!(rt; are_sorted_by_tens(rt.alloc())?);
     Ok(())
 }
 
@@ -202,6 +206,14 @@ fn popped_if_below(v: &mut TryVec<u64>, limit: u64) -> Option<u64> {
     v.pop_if(|item| *item < limit)
 }
 
+fn only_one_is_kept(alloc: Global) -> Result<(bool, bool), TryReserveError> {
+    let mut many = of(alloc, &[11, 12, 25, 13, 14, 31])?;
+    one_of_each_ten(&mut many);
+    let by_tens = holds(&many, &[11, 25, 13, 31]);
+    one_of_each_half(&mut many);
+    Ok((by_tens, holds(&many, &[11, 25, 13, 31])))
+}
+
 #[test]
 fn closures_write_and_drop(rt: HostRuntime) -> Result<(), Fail> {
     let mut v = of(rt.alloc(), &[1, 2, 3])?;
@@ -209,11 +221,9 @@ fn closures_write_and_drop(rt: HostRuntime) -> Result<(), Fail> {
     assert!(rt; holds(&v, &[2, 6]));
     assert!(rt; popped_if_below(&mut v, 6).is_none() && popped_if_below(&mut v, 7) == Some(6));
     assert!(rt; holds(&v, &[2]));
-    let mut many = of(rt.alloc(), &[11, 12, 25, 13, 14, 31])?;
-    one_of_each_ten(&mut many);
-    assert!(rt; holds(&many, &[11, 25, 13, 31]));
-    one_of_each_half(&mut many);
-    assert!(rt; holds(&many, &[11, 25, 13, 31]));
+    let (by_tens, by_halves) = only_one_is_kept(rt.alloc())?;
+    assert!(rt; by_tens);
+    assert!(rt; by_halves);
     Ok(())
 }
 
@@ -222,17 +232,27 @@ fn split(v: &mut TryVec<u64>, at: usize) -> Result<TryVec<u64>, TryReserveError>
     v.split_off(at.min(v.len()))
 }
 
+// Whether these go, and how much room is with them.
+fn given_by_split(
+    v: &mut TryVec<u64>,
+    at: usize,
+    wanted: &[u64],
+) -> Result<(bool, usize), TryReserveError> {
+    let rest = split(v, at)?;
+    Ok((holds(&rest, wanted), rest.capacity()))
+}
+
 #[test]
 fn a_vector_is_parted(rt: HostRuntime) -> Result<(), Fail> {
     let mut v = of(rt.alloc(), &[1, 2, 3, 4, 5])?;
-    let rest = split(&mut v, 3)?;
-    assert!(rt; holds(&v, &[1, 2, 3]) && holds(&rest, &[4, 5]) && v.capacity() == 5);
-    let nothing = split(&mut v, 9)?;
-    assert!(rt; holds(&v, &[1, 2, 3]) && nothing.is_empty() && nothing.capacity() == 0);
+    let (is_rest, _room) = given_by_split(&mut v, 3, &[4, 5])?;
+    assert!(rt; holds(&v, &[1, 2, 3]) && is_rest && v.capacity() == 5);
+    let (is_nothing, room) = given_by_split(&mut v, 9, &[])?;
+    assert!(rt; holds(&v, &[1, 2, 3]) && is_nothing && room == 0);
     v.shrink_to_fit();
     assert!(rt; holds(&v, &[1, 2, 3]) && v.capacity() == 3);
-    let all = split(&mut v, 0)?;
-    assert!(rt; v.is_empty() && v.capacity() == 3 && holds(&all, &[1, 2, 3]));
+    let (is_all, _room) = given_by_split(&mut v, 0, &[1, 2, 3])?;
+    assert!(rt; v.is_empty() && v.capacity() == 3 && is_all);
     v.shrink_to_fit();
     assert!(rt; v.capacity() == 0);
     Ok(())
@@ -327,18 +347,33 @@ fn hash_of<T: Hash>(value: &T) -> u64 {
     hasher.finish()
 }
 
+fn is_less_than_longer(alloc: Global, short: &Route) -> Result<bool, TryReserveError> {
+    let long = route_of(alloc, &[3, 4, 0])?;
+    Ok(ordered(short, &long).is_lt() && *short < long)
+}
+
+fn is_greater_than_longer(alloc: Global, later: &Route) -> Result<bool, TryReserveError> {
+    let long = route_of(alloc, &[3, 4, 0])?;
+    Ok(ordered(later, &long).is_gt())
+}
+
+fn is_apart_from_later(alloc: Global, short: &Route) -> Result<bool, TryReserveError> {
+    let later = route_of(alloc, &[3, 5])?;
+    let is_other = *short != later && hash_of(&short.steps) != hash_of(&later.steps);
+    Ok(is_greater_than_longer(alloc, &later)? && is_other)
+}
+
+fn is_hashed_as_in_std(alloc: Global, short: &Route) -> Result<bool, TryReserveError> {
+    let same: Vec<u64> = Vec::from_slice(alloc, &[3, 4])?;
+    Ok(hash_of(&short.steps) == hash_of(&same))
+}
+
 #[test]
 fn vectors_are_in_order(rt: HostRuntime) -> Result<(), Fail> {
-    let (short, long) = (
-        route_of(rt.alloc(), &[3, 4])?,
-        route_of(rt.alloc(), &[3, 4, 0])?,
-    );
-    let later = route_of(rt.alloc(), &[3, 5])?;
-    assert!(rt; ordered(&short, &long).is_lt() && ordered(&later, &long).is_gt());
-    assert!(rt; ordered(&short, &short).is_eq() && short < long && short != later);
-    let same: Vec<u64> = Vec::from_slice(rt.alloc(), &[3, 4])?;
-    assert!(rt;
-        hash_of(&short.steps) == hash_of(&same) && hash_of(&short.steps) != hash_of(&later.steps)
-    );
+    let short = route_of(rt.alloc(), &[3, 4])?;
+    assert!(rt; ordered(&short, &short).is_eq());
+    assert!(rt; is_less_than_longer(rt.alloc(), &short)?);
+    assert!(rt; is_apart_from_later(rt.alloc(), &short)?);
+    assert!(rt; is_hashed_as_in_std(rt.alloc(), &short)?);
     Ok(())
 }

@@ -1,9 +1,14 @@
 //! Calls that put numbers into a vector, as values, so that one table serves with ample memory and under refused memory.
 use fc_base::TryReserveError;
-use fc_vec::{FallibleCopyVec, FallibleVec};
+use fc_vec::{FallibleCopyVec, FallibleVec, TryVec};
 use std::alloc::{AllocError, Global};
 use std::cell::Cell;
 use test_values::is_ample;
+
+// A vector of these items. One for the crate, as the proof of each costs seconds.
+pub(crate) fn of(alloc: Global, items: &[u64]) -> Result<TryVec<u64>, TryReserveError> {
+    TryVec::try_from_slice(alloc, items)
+}
 
 pub(crate) fn holds(items: &[u64], expected: &[u64]) -> bool {
     items == expected

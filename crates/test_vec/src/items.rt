@@ -1,13 +1,7 @@
 //! Calls of `TryVec` on its items, which take no memory, and what it is made of.
-use crate::calls::holds;
-use fc_base::TryReserveError;
+use crate::calls::{holds, of};
 use fc_vec::{TryCollect, TryVec};
-use std::alloc::Global;
 use std::test::Fail;
-
-fn of(alloc: Global, items: &[u64]) -> Result<TryVec<u64>, TryReserveError> {
-    TryVec::try_from_slice(alloc, items)
-}
 
 fn at(v: &TryVec<u64>, index: usize) -> Option<u64> {
     v.get(index).copied()

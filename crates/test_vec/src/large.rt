@@ -58,19 +58,30 @@ fn is_whole(v: &TryVec<u64>) -> bool {
     v.len() == MANY && v.last().copied() == Some(7)
 }
 
+// Whether what two calls make of the source is whole, and the first of them is emptied.
+fn is_extended_and_appended(alloc: Global, source: &[u64]) -> Result<bool, TryReserveError> {
+    let mut made = extended(alloc, source)?;
+    let is_moved = is_whole(&appended(alloc, &mut made)?);
+    Ok(is_moved && made.is_empty())
+}
+
+fn is_cloned_and_joined(alloc: Global, source: &TryVec<u64>) -> Result<bool, TryReserveError> {
+    let clone = cloned(source)?;
+    let is_cloned = is_whole(&clone);
+    let is_joined = is_whole(&joined(alloc, clone)?);
+    Ok(is_cloned && is_joined)
+}
+
 // A list of a million, once for each of eight calls; and a list of one vector, of 24 bytes.
 #[test]
 fn a_million_at_once(rt: HostRuntime) -> Result<(), Fail> {
+    assert!(rt; is_whole(&filled(rt.alloc())?));
+    assert!(rt; is_whole(&resized_with(rt.alloc())?));
     let first = repeated(rt.alloc())?;
-    let second = filled(rt.alloc())?;
-    let third = resized_with(rt.alloc())?;
-    let fourth = copied(rt.alloc(), first.as_slice())?;
-    let mut fifth = extended(rt.alloc(), first.as_slice())?;
-    let sixth = appended(rt.alloc(), &mut fifth)?;
-    let seventh = cloned(&first)?;
-    assert!(rt; is_whole(&first) && is_whole(&second) && is_whole(&third) && is_whole(&fourth));
-    assert!(rt; fifth.is_empty() && is_whole(&sixth) && is_whole(&seventh));
-    assert!(rt; is_whole(&joined(rt.alloc(), seventh)?));
+    assert!(rt; is_whole(&first));
+    assert!(rt; is_whole(&copied(rt.alloc(), first.as_slice())?));
+    assert!(rt; is_extended_and_appended(rt.alloc(), first.as_slice())?);
+    assert!(rt; is_cloned_and_joined(rt.alloc(), &first)?);
     Ok(())
 }
 
@@ -115,9 +126,8 @@ fn reserved_in_std(alloc: Global) -> Result<Vec<u64>, TryReserveError> {
 // Three rooms.
 #[test]
 fn room_for_a_million(rt: HostRuntime) -> Result<(), Fail> {
-    let first = with_room(rt.alloc())?;
-    let second = reserved(rt.alloc())?;
-    let third = reserved_in_std(rt.alloc())?;
-    assert!(rt; first.is_empty() && second.is_empty() && third.capacity() >= MANY);
+    assert!(rt; with_room(rt.alloc())?.is_empty());
+    assert!(rt; reserved(rt.alloc())?.is_empty());
+    assert!(rt; reserved_in_std(rt.alloc())?.capacity() >= MANY);
     Ok(())
 }

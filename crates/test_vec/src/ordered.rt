@@ -1,4 +1,5 @@
 //! Order and hashes of vectors, and walks that are copied.
+use crate::calls::of;
 use fc_base::TryReserveError;
 use fc_vec::TryVec;
 use std::alloc::Global;
@@ -6,23 +7,30 @@ use std::cmp::Ordering;
 use std::hash::{DefaultHasher, Hash, Hasher};
 use std::test::Fail;
 
-fn of(alloc: Global, items: &[u64]) -> Result<TryVec<u64>, TryReserveError> {
-    TryVec::try_from_slice(alloc, items)
-}
-
 fn is_less(one: &TryVec<u64>, other: &TryVec<u64>) -> bool {
     one.cmp(other) == Ordering::Less && other.cmp(one) == Ordering::Greater && *one < *other
 }
 
+fn are_less(alloc: Global, one: &[u64], other: &[u64]) -> Result<bool, TryReserveError> {
+    let one = of(alloc, one)?;
+    Ok(is_less(&one, &of(alloc, other)?))
+}
+
+fn are_equal(alloc: Global, one: &[u64], other: &[u64]) -> Result<bool, TryReserveError> {
+    let one = of(alloc, one)?;
+    Ok(one.cmp(&of(alloc, other)?) == Ordering::Equal)
+}
+
+// Each comes before the next.
+const ASCENDING: [&[u64]; 4] = [&[], &[2], &[2, 0], &[3]];
+
 // The first items that differ decide, and where there are none the shorter vector is less.
 #[test]
 fn vectors_are_ordered_by_their_items(rt: HostRuntime) -> Result<(), Fail> {
-    let none = of(rt.alloc(), &[])?;
-    let short = of(rt.alloc(), &[2])?;
-    let long = of(rt.alloc(), &[2, 0])?;
-    let later = of(rt.alloc(), &[3])?;
-    assert!(rt; is_less(&none, &short) && is_less(&short, &long) && is_less(&long, &later));
-    assert!(rt; long.cmp(&of(rt.alloc(), &[2, 0])?) == Ordering::Equal);
+    for place in 0..3usize {
+        assert!(rt; are_less(rt.alloc(), ASCENDING[place], ASCENDING[place + 1])?);
+    }
+    assert!(rt; are_equal(rt.alloc(), &[2, 0], &[2, 0])?);
     Ok(())
 }
 

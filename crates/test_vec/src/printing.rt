@@ -10,7 +10,7 @@ const BELOW_100: &str =
     50, 51, 52, 53, 54, 55, 56, 57, 58, 59, 60, 61, 62, 63, 64, 65, 66, 67, 68, 69, 70, 71, 72, 73, 74, \
     75, 76, 77, 78, 79, 80, 81, 82, 83, 84, 85, 86, 87, 88, 89, 90, 91, 92, 93, 94, 95, 96, 97, 98, 99]";
 
-fn numbers(alloc: Global, start: u64, end: u64) -> Result<Vec<u64>, TryReserveError> {
+pub(crate) fn numbers(alloc: Global, start: u64, end: u64) -> Result<Vec<u64>, TryReserveError> {
     TryCollect::try_collect(start..end, alloc)
 }
 
@@ -35,24 +35,25 @@ fn a_vector_prints_its_items_in_order(rt: HostRuntime) {
     assert!(rt; prints(rt.alloc(), 1, 3, "[1, 2]") && prints(rt.alloc(), 0, 100, BELOW_100));
 }
 
-fn printed_rest(alloc: Global, v: &TryVec<u64>, given: usize) -> Result<String, AllocError> {
+fn prints_rest(
+    alloc: Global,
+    v: &TryVec<u64>,
+    given: usize,
+    wanted: &str,
+) -> Result<bool, AllocError> {
     let mut walk = v.iter();
     for _ in 0..given {
         walk.next();
     }
-    format!(in alloc; "{walk:?}")
+    let text = format!(in alloc; "{walk:?}")?;
+    Ok(text.as_str() == wanted)
 }
 
 #[test]
 fn a_walk_prints_what_is_still_to_come(rt: HostRuntime) -> Result<(), Fail> {
     let v = TryVec::from(numbers(rt.alloc(), 7, 9)?);
-    let whole = printed_rest(rt.alloc(), &v, 0)?;
-    let one = printed_rest(rt.alloc(), &v, 1)?;
-    let none = printed_rest(rt.alloc(), &v, 3)?;
-    assert!(rt;
-        whole.as_str() == "Iter([7, 8])"
-            && one.as_str() == "Iter([8])"
-            && none.as_str() == "Iter([])"
-    );
+    assert!(rt; prints_rest(rt.alloc(), &v, 0, "Iter([7, 8])")?);
+    assert!(rt; prints_rest(rt.alloc(), &v, 1, "Iter([8])")?);
+    assert!(rt; prints_rest(rt.alloc(), &v, 3, "Iter([])")?);
     Ok(())
 }

@@ -53,18 +53,32 @@ fn joined(alloc: Global) -> Result<TryVec<u64>, TryReserveError> {
     parts.concat()
 }
 
+// The third and the fourth list.
+fn is_copied(alloc: Global) -> Result<bool, TryReserveError> {
+    let third = sliced(alloc)?;
+    Ok(copied(&third)?.len() == 10)
+}
+
+// The fifth and the sixth one.
+fn is_copied_from_std(alloc: Global) -> Result<bool, TryReserveError> {
+    let fifth = repeated(alloc)?;
+    Ok(copied_from_std(&fifth)?.len() == 10)
+}
+
+// The first and the seventh one.
+fn is_appended(alloc: Global) -> Result<bool, TryReserveError> {
+    let mut first = reserved(alloc)?;
+    let length = appended(alloc, &mut first)?.len();
+    Ok(first.is_empty() && length == 10)
+}
+
 #[test]
 fn calls_ask_for_what_they_say(rt: HostRuntime) -> Result<(), Fail> {
-    let mut first = reserved(rt.alloc())?;
-    let second = with_capacity(rt.alloc())?;
-    let third = sliced(rt.alloc())?;
-    let fourth = copied(&third)?;
-    let fifth = repeated(rt.alloc())?;
-    let sixth = copied_from_std(&fifth)?;
-    let seventh = appended(rt.alloc(), &mut first)?;
-    let eighth = joined(rt.alloc())?;
-    assert!(rt; first.is_empty() && second.is_empty() && fourth.len() == 10);
-    assert!(rt; sixth.len() == 10 && seventh.len() == 10 && eighth.len() == 10);
+    assert!(rt; is_appended(rt.alloc())?);
+    assert!(rt; with_capacity(rt.alloc())?.is_empty());
+    assert!(rt; is_copied(rt.alloc())?);
+    assert!(rt; is_copied_from_std(rt.alloc())?);
+    assert!(rt; joined(rt.alloc())?.len() == 10);
     Ok(())
 }
 

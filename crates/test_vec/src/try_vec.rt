@@ -1,16 +1,12 @@
 //! Calls of `TryVec` with ample memory.
 ghost use Rattle.std.specs.Prelude.{⊤};
 
-use crate::calls::{holds, is_overflow, is_refused};
+use crate::calls::{holds, is_overflow, is_refused, of};
 use fc_base::{TryClone, TryReserveError};
 use fc_vec::{FallibleCopyVec, FallibleVec, TryVec};
 use std::alloc::Global;
 use std::mem::ManuallyDrop;
 use std::test::Fail;
-
-fn of(alloc: Global, items: &[u64]) -> Result<TryVec<u64>, TryReserveError> {
-    TryVec::try_from_slice(alloc, items)
-}
 
 fn reserved(v: &mut TryVec<u64>, more: usize) -> Result<(), TryReserveError> {
     v.reserve(more)

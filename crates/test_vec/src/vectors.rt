@@ -1,5 +1,6 @@
 //! Calls on std's vectors with ample memory, and reservations at the ends of what a length can be.
 use crate::calls::{calls_that_end_well, holds, is_overflow, is_refused, resized_with};
+use crate::printing::numbers;
 use fc_base::TryReserveError;
 use fc_vec::{FallibleVec, TryCollect, TryFromIterator, TryVec, try_from_elem};
 use std::alloc::Global;
@@ -54,24 +55,33 @@ fn are_ten_each(vectors: &[TryVec<u64>]) -> bool {
     true
 }
 
+fn are_hundred_of_ten(alloc: Global) -> Result<bool, TryReserveError> {
+    let ten = TryVec::from(repeated(alloc, 42, 10)?);
+    let hundred = repeated_vectors(alloc, ten, 100)?;
+    Ok(hundred.len() == 100 && are_ten_each(&hundred))
+}
+
 #[test]
 fn an_element_is_repeated(rt: HostRuntime) -> Result<(), Fail> {
-    let three = repeated(rt.alloc(), 7, 3)?;
-    let none = repeated(rt.alloc(), 7, 0)?;
-    let ten = TryVec::from(repeated(rt.alloc(), 42, 10)?);
-    let hundred = repeated_vectors(rt.alloc(), ten, 100)?;
-    assert!(rt; holds(&three, &[7, 7, 7]) && none.is_empty());
-    assert!(rt; hundred.len() == 100 && are_ten_each(&hundred));
+    assert!(rt; holds(&repeated(rt.alloc(), 7, 3)?, &[7, 7, 7]));
+    assert!(rt; repeated(rt.alloc(), 7, 0)?.is_empty());
+    assert!(rt; are_hundred_of_ten(rt.alloc())?);
     Ok(())
+}
+
+fn collected(alloc: Global, items: &[u64]) -> Result<Vec<u64>, TryReserveError> {
+    TryCollect::try_collect(Vec::from_slice(alloc, items)?, alloc)
+}
+
+fn counted(alloc: Global, end: u64) -> Result<Vec<u64>, TryReserveError> {
+    TryFromIterator::try_from_iterator(alloc, 0..end)
 }
 
 #[test]
 fn items_are_collected_in_order(rt: HostRuntime) -> Result<(), Fail> {
-    let source = Vec::from_slice(rt.alloc(), &[3u64, 1, 2])?;
-    let made: Vec<u64> = TryCollect::try_collect(source, rt.alloc())?;
-    let counted: Vec<u64> = TryFromIterator::try_from_iterator(rt.alloc(), 0..3u64)?;
-    let empty: Vec<u64> = TryCollect::try_collect(0..0u64, rt.alloc())?;
-    assert!(rt; holds(&made, &[3, 1, 2]) && holds(&counted, &[0, 1, 2]) && empty.is_empty());
+    assert!(rt; holds(&collected(rt.alloc(), &[3, 1, 2])?, &[3, 1, 2]));
+    assert!(rt; holds(&counted(rt.alloc(), 3)?, &[0, 1, 2]));
+    assert!(rt; numbers(rt.alloc(), 0, 0)?.is_empty());
     Ok(())
 }
 

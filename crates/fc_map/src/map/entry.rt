@@ -1,8 +1,8 @@
 //! A key's place in a map: it was searched for once, and is written, filled or emptied without another comparison.
 ghost use Rattle.std.specs.Prelude.{◌≡◌};
-ghost use Rattle.fc_tree_node.specs.TreePlace.{IsPlaceIn};
+ghost use Rattle.fc_map.specs.KeptPlace.{IsKeptPlace};
 ghost use Rattle.fc_map.specs.Place.{IsOpenAt};
-ghost use Rattle.fc_map.specs.Unique.{open-prop, place-prop};
+ghost use Rattle.fc_map.specs.Unique.{kept-prop, open-prop};
 
 mod beside;
 mod entry_methods;
@@ -39,7 +39,7 @@ pub struct VacantEntry<'a, K: Ord, V, A: Handle = Global> {
 pub struct OccupiedEntry<'a, K: Ord, V, A: Handle = Global> {
     pub(crate) map: &'a mut BTreeMap<K, V, A>,
     pub(crate) path: Path,
-    ghost place: { IsPlaceIn map.now path } by { place-prop map.now path },
+    ghost place: { IsKeptPlace map.now path } by { kept-prop map.now path },
 }
 
 // Dropped, it leaves the map as it was: a derived `drop` would not say so.

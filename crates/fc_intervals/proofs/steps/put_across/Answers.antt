@@ -1,8 +1,9 @@
-use Rattle.std.proofs.Common.{ap}
+use Rattle.std.proofs.Common.{ap, inl, inr}
 use Rattle.std.specs.Ordering.{is_le}
 use Rattle.std.proofs.lemmas.Result.{on_ok_weaker, IfErr-weaker}
 use Rattle.fc_map.specs.Entries.{entries}
-use Rattle.fc_intervals.proofs.Parted.{beside_refused, front_parted, put_parted, rest_refused}
+use Rattle.fc_intervals.proofs.Lengths.{full_ahead, refused_ahead}
+use Rattle.fc_intervals.proofs.Parted.{front_parted, put_parted}
 use Rattle.fc_intervals.proofs.steps.put_across.Goals as goal
 
 pub put_parted-requires : goal.put_parted-requires
@@ -30,10 +31,15 @@ returns-in-Ok-clause-written g c =
 pub returns-in-Ok-clause-error : goal.returns-in-Ok-clause-error
 returns-in-Ok-clause-error g c =
     let parted = c.in-Ok.ensures.parted in
-    IfErr-weaker c.put_parted.result _ _ (λ e. beside_refused g.K.Ord.cmp g.met.K.Ord.total (entries c.args.map.now) c.requires.apart g.V.TryClone.same
-    c.args.stretch.end g.V.TryClone.may_refuse e.1 parted.rest parted.is_rest (entries c.part.new.map) parted.is) c.put_parted.ensures.error
+    IfErr-weaker c.put_parted.result _ _ (λ e h. inr (refused_ahead g.K.Ord.cmp g.met.K.Ord.total (entries c.args.map.now) c.requires.apart
+    g.V.TryClone.same c.args.stretch.end parted.rest parted.is_rest (entries c.part.new.map) parted.is c.args.from c.requires.range e.1 h))
+    c.put_parted.ensures.error
+
+pub returns-in-Ok-clause-full : goal.returns-in-Ok-clause-full
+returns-in-Ok-clause-full g c =
+    let parted = c.in-Ok.ensures.parted in
+    full_ahead g.K.Ord.cmp g.met.K.Ord.total (entries c.args.map.now) c.requires.apart g.V.TryClone.same c.args.stretch.end parted.rest parted.is_rest
+    (entries c.part.new.map) parted.is c.args.from c.requires.range _ c.put_parted.ensures.full
 
 pub returns-in-Err-clause-error : goal.returns-in-Err-clause-error
-returns-in-Err-clause-error g c =
-    rest_refused g.K.Ord.cmp g.met.K.Ord.total (entries c.args.map.now) c.requires.apart g.V.TryClone.same c.args.stretch.end g.V.TryClone.may_refuse _
-    c.in-Err.ensures.error
+returns-in-Err-clause-error g c = inl c.in-Err.ensures.error

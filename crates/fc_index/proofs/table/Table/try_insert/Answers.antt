@@ -1,8 +1,11 @@
-use Rattle.std.proofs.Common.{length, ap, ◌∙◌}
+use Rattle.std.proofs.Common.{length, ap, ◌∙◌, inl, inr}
+use Rattle.std.specs.Prelude.{◌≡◌, true, false}
+use Rattle.std.specs.Option.{option_map}
 use Rattle.fc_map.specs.Entries.{entries}
 use Rattle.fc_set.specs.Items.{items}
+use Rattle.fc_index.specs.Rows.{has_both}
 use Rattle.fc_index.specs.declared.keyed.Keyed.{Keyed}
-use Rattle.fc_index.proofs.Listed.{listed_put, listed_back, refused_at}
+use Rattle.fc_index.proofs.Listed.{listed_put, listed_back, new_one, not_both, refused_at}
 use Rattle.fc_index.proofs.table.Table.try_insert.Goals as goal
 
 pub returns-in-Err-clause-error : goal.returns-in-Err-clause-error
@@ -44,3 +47,21 @@ invariant_of-self-in-Err-try_insert g c =
 
 pub returns-in-Err-try_insert-clause-error : goal.returns-in-Err-try_insert-clause-error
 returns-in-Err-try_insert-clause-error g c = rw (← c.self.view_is) c.in-Err-try_insert.ensures.error
+
+pub returns-in-Err-clause-new_key : goal.returns-in-Err-clause-new_key
+returns-in-Err-clause-new_key g c = rw (← c.self.view_is) (
+    not_both g.A.Ord.cmp g.B.Ord.cmp g.I.Ord.cmp (entries c.self.inside.rows) (items c.self.inside.firsts) (items c.self.inside.seconds)
+    c.self.invariant.0 c.self.invariant.1 c.args.id c.args.first c.args.second c.in-Err.ensures.new_key
+    )
+
+pub returns-in-Err-try_insert-clause-new_key : goal.returns-in-Err-try_insert-clause-new_key
+returns-in-Err-try_insert-clause-new_key g c = rw (← c.self.view_is)
+    (ap (λ o. has_both g.A.Ord.cmp g.B.Ord.cmp (option_map (λ e. e.1) o) c.args.first c.args.second) c.in-Err-try_insert.ensures.new_key)
+
+pub returns-in-Ok-try_insert-clause-full : goal.returns-in-Ok-try_insert-clause-full
+returns-in-Ok-try_insert-clause-full g c = rw (← c.self.view_is) (λ h most.
+    elim (new_one g.A.Ord.cmp g.B.Ord.cmp g.I.Ord.cmp (entries c.self.inside.rows) (items c.self.inside.firsts) (items c.self.inside.seconds)
+    c.self.invariant.0 c.self.invariant.1 c.args.id c.args.first c.args.second h) as (λ _. false ≡ true) [
+      | inl n ↦ c.in-Ok.ensures.full_first n (c.self.invariant.0.many ∙ most)
+      | inr n ↦ c.in-Ok.ensures.full_second n (c.self.invariant.1.many ∙ most)
+    ])

@@ -1,10 +1,11 @@
 use Rattle.std.proofs.Common.{refl}
 use Rattle.fc_map.specs.Entries.{entries}
 use Rattle.fc_map.proofs.BesideFacts.{first_behind, sides_joined}
+use Rattle.fc_map.proofs.EntryFacts.{kept_place}
 use Rattle.fc_map.proofs.map.BTreeMap.first_entry_after.Goals as goal
 
 pub invariant_of-result : goal.invariant_of-result
-invariant_of-result g c = record { place = (c.locate_after.ensures.place.0 c.if-locate_after.true).0 }
+invariant_of-result g c = record { place = kept_place c.args.self.now c.locate_after.new.path (c.locate_after.ensures.place.0 c.if-locate_after.true).0 }
 
 pub returns-then-locate_after : goal.returns-then-locate_after
 returns-then-locate_after g c =

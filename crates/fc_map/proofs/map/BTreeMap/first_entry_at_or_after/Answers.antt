@@ -2,10 +2,11 @@ use Rattle.std.proofs.Common.{refl}
 use Rattle.fc_base.proofs.JoinedLaws.{halves_joined}
 use Rattle.fc_map.specs.Entries.{entries}
 use Rattle.fc_map.proofs.BesideFacts.{first_behind}
+use Rattle.fc_map.proofs.EntryFacts.{kept_place}
 use Rattle.fc_map.proofs.map.BTreeMap.first_entry_at_or_after.Goals as goal
 
 pub invariant_of-result : goal.invariant_of-result
-invariant_of-result g c = record { place = (c.locate_from.ensures.place.0 c.if-locate_from.true).0 }
+invariant_of-result g c = record { place = kept_place c.args.self.now c.locate_from.new.path (c.locate_from.ensures.place.0 c.if-locate_from.true).0 }
 
 pub returns-then-locate_from : goal.returns-then-locate_from
 returns-then-locate_from g c =

@@ -3,7 +3,11 @@ use Rattle.fc_base.specs.Ascending.{IsAscending}
 use Rattle.fc_tree_node.specs.TreePlace.{before_gap_in}
 use Rattle.fc_map.specs.Entries.{entries}
 use Rattle.fc_map.proofs.EndPairFacts.{last_is}
+use Rattle.fc_map.proofs.EntryFacts.{kept_place}
 use Rattle.fc_map.proofs.map.BTreeMap.last_entry.Goals as goal
+
+pub invariant_of-result : goal.invariant_of-result
+invariant_of-result g c = record { place = kept_place c.args.self.now c.step_to_previous-path.result c.step_to_previous-path.ensures.place }
 
 pub returns : goal.returns
 returns g c =

@@ -1,10 +1,11 @@
 use Rattle.std.proofs.Common.{refl}
 use Rattle.fc_map.specs.Entries.{entries}
 use Rattle.fc_map.proofs.BesideFacts.{last_ahead, sides_joined}
+use Rattle.fc_map.proofs.EntryFacts.{kept_place}
 use Rattle.fc_map.proofs.map.BTreeMap.last_entry_at_or_before.Goals as goal
 
 pub invariant_of-result : goal.invariant_of-result
-invariant_of-result g c = record { place = (c.locate_to.ensures.place.0 c.if-locate_to.true).0 }
+invariant_of-result g c = record { place = kept_place c.args.self.now c.locate_to.new.path (c.locate_to.ensures.place.0 c.if-locate_to.true).0 }
 
 pub returns-then-locate_to : goal.returns-then-locate_to
 returns-then-locate_to g c =

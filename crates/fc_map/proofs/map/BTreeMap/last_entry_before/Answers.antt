@@ -2,10 +2,11 @@ use Rattle.std.proofs.Common.{refl}
 use Rattle.fc_base.proofs.JoinedLaws.{halves_joined}
 use Rattle.fc_map.specs.Entries.{entries}
 use Rattle.fc_map.proofs.BesideFacts.{last_ahead}
+use Rattle.fc_map.proofs.EntryFacts.{kept_place}
 use Rattle.fc_map.proofs.map.BTreeMap.last_entry_before.Goals as goal
 
 pub invariant_of-result : goal.invariant_of-result
-invariant_of-result g c = record { place = (c.locate_before.ensures.place.0 c.if-locate_before.true).0 }
+invariant_of-result g c = record { place = kept_place c.args.self.now c.locate_before.new.path (c.locate_before.ensures.place.0 c.if-locate_before.true).0 }
 
 pub returns-then-locate_before : goal.returns-then-locate_before
 returns-then-locate_before g c =

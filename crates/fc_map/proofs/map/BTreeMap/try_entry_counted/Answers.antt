@@ -1,7 +1,13 @@
 use Rattle.std.proofs.Common.{refl, sym}
 use Rattle.fc_map.proofs.PlaceFacts.{held_pair, open_none, open_cut, replaced}
-use Rattle.fc_map.proofs.EntryFacts.{held_key, held_cut, open_key, open_put}
+use Rattle.fc_map.proofs.EntryFacts.{held_key, held_cut, held_place, kept_place, open_key, open_put}
 use Rattle.fc_map.proofs.map.BTreeMap.try_entry_counted.Goals as goal
+
+pub invariant_of-result : goal.invariant_of-result
+invariant_of-result g c =
+    let m = c.args.self.now in
+    let path = c.locate.new.path in
+    record { place = kept_place m path (held_place g.K.Ord.cmp c.args.key m path c.in-Ok.ensures.found) }
 
 pub returns-in-Ok : goal.returns-in-Ok
 returns-in-Ok g c =

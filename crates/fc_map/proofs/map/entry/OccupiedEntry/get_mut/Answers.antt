@@ -1,12 +1,14 @@
-use Rattle.std.proofs.Common.{refl}
-use Rattle.fc_map.specs.Entry.{place_stays}
+use Rattle.std.proofs.Common.{[], ◌∷◌, refl}
 use Rattle.fc_map.proofs.EntryFacts.{occupied_written}
 use Rattle.fc_map.proofs.map.entry.OccupiedEntry.get_mut.Goals as goal
+
+pub value_mut-requires : goal.value_mut-requires
+value_mut-requires g c = c.args.self.now.place []
 
 pub invariant_of-self-lent : goal.invariant_of-self-lent
 invariant_of-self-lent g c = λ w.
     let o = c.args.self.now in
-    (place_stays o.map.now o.path w o.place, tt)
+    (λ values. o.place (w ∷ values), tt)
 
 pub returns : goal.returns
 returns g c =
