@@ -78,7 +78,8 @@ class Reach:
         self.items |= items
 
     def names(self, crate, name):
-        """Whether it names this of a crate: a function by its name and that of its type, or else by its crate; a definition by its file; a type by its crate."""
+        """Whether it names this of a crate: a function by its name and that of its type, or else by its crate; a definition by its file; a type by its
+        crate."""
         owner, _, called = name.removesuffix("()").rpartition(".")
         if name.endswith("()"):
             return called in self.code and (owner in self.words if owner else crate in self.crates)
