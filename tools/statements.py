@@ -5,10 +5,11 @@ import pathlib
 import re
 import sys
 
-top = pathlib.Path(__file__).resolve().parent.parent
+sys.dont_write_bytecode = True
+from paging.sources import WRITES, between, ended, top, with_between, wrong
+
 page = top / "docs/STATEMENTS.md"
 text = page.read_text()
-wrong = []
 
 
 def lines(path):
@@ -49,12 +50,10 @@ def bounded_calls():
 
 def with_list(text, mark, lines):
     """The page with these lines between a mark and its end."""
-    begin, end = f"<!-- {mark} -->\n", f"<!-- end of {mark} -->"
-    before, _, rest = text.partition(begin)
-    old, _, after = rest.partition(end)
-    if old != "\n".join(lines) + "\n":
+    new = "\n".join(lines) + "\n"
+    if between(text, mark) != new:
         wrong.append(f"the {mark} are others than those that the page lists")
-    return before + begin + "\n".join(lines) + "\n" + end + after
+    return with_between(text, mark, new)
 
 
 def row(found):
@@ -91,7 +90,6 @@ numbers = (
 kept = re.sub(r"(?s)The \d+ files that the headline rests on .*? need\s+have \d+\s+lines\.", numbers, text)
 if kept != text:
     wrong.append("the sums are wrong")
-if "--write" in sys.argv:
+if WRITES:
     page.write_text(kept)
-elif wrong:
-    sys.exit("\n".join(wrong))
+ended()
