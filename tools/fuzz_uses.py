@@ -65,7 +65,7 @@ def fault_of(case, model, ran, see=lambda word, met, length: None):
     """Where what was told differs from what the model gives, or None: the place of the line, what was wanted, and what was told. What each line meets is
     shown to `see`, with the number of entries before it."""
     told, behind, refusals = ran.replies, 0, 0
-    if ran.refusals and case.requests[0] <= STARTS:
+    if ran.refusals and case.first() <= STARTS:
         return None if (told, ran.status, ran.kept) == ([], 1, "0") else (0, "status 1 and no reply", f"status {ran.status}, {told[:3]}")
     for at, line in enumerate(case.lines):
         word, answer = model.answered(line)

@@ -27,6 +27,11 @@ class Case(NamedTuple):
     requests: tuple = ()  # the numbers of the requests for memory that are refused
     onward: int = 0  # the number of the request from which on each is refused, or 0
     budget: object = None  # the bytes that maps and sets may take together, which a program with a budget is told, or None
+    words: tuple = ()  # what else stands behind the program's name
+
+    def first(self):
+        """The number of the first request that is refused, or 0."""
+        return self.requests[0] if self.requests else self.onward
 
     def text(self):
         return b"\n".join(self.lines) + (b"\n" if self.lines and (self.ended or not self.lines[-1]) else b"")
@@ -39,6 +44,7 @@ class Run(NamedTuple):
     requests: int
     refusals: int
     kept: str  # how many blocks were not given back
+    bytes: int = 0  # that were asked for
 
 
 class Fault(NamedTuple):
@@ -50,13 +56,15 @@ class Fault(NamedTuple):
 class Program:
     """A built program, which is run with requests for memory refused. The folder is for its files."""
 
-    def __init__(self, path, folder):
+    def __init__(self, path, folder, patience=PATIENCE):
+        self.patience = patience
         self.path = pathlib.Path(path).resolve()
         self.folder = folder
         self.refuse = f"{folder}/refuse.so"
         if not self.path.is_file():
             raise SystemExit(f"no program at {self.path}")
-        if subprocess.run(["cc", "-O1", "-shared", "-fPIC", "-o", self.refuse, top / "tools/refuse.c"], check=False).returncode:
+        words = ["cc", "-O1", "-shared", "-fPIC", "-o", self.refuse, top / "tools/refuse.c"]
+        if not os.path.exists(self.refuse) and subprocess.run(words, check=False).returncode:
             raise SystemExit(2)
 
     def run(self, case):
@@ -66,15 +74,15 @@ class Program:
         environment = {**os.environ, "LD_PRELOAD": self.refuse, "REFUSE_LOG": str(log)}
         environment |= {"REFUSE": ",".join(map(str, case.requests)), "REFUSE_FROM": str(case.onward)}
         try:
-            words = [] if case.budget is None else [str(case.budget)]
-            ended = subprocess.run([self.path, *words], input=case.text(), capture_output=True, env=environment, timeout=PATIENCE, check=False)
+            words = case.words if case.budget is None else [str(case.budget)]
+            ended = subprocess.run([self.path, *words], input=case.text(), capture_output=True, env=environment, timeout=self.patience, check=False)
             status = ended.returncode
         except subprocess.TimeoutExpired as late:
-            ended, status = late, f"none within {PATIENCE} seconds"
-        counts = log.read_text().split() if log.exists() else ["0", "0", "an unknown number"]
+            ended, status = late, f"none within {self.patience} seconds"
+        counts = log.read_text().split() if log.exists() else ["0", "0", "an unknown number", "0"]
         *replies, last = (ended.stdout or b"").decode("latin-1").split("\n")
         replies += [last + " without a line feed"] if last else []
-        return Run(replies, status, (ended.stderr or b"").decode("latin-1"), int(counts[0]), int(counts[1]), counts[2])
+        return Run(replies, status, (ended.stderr or b"").decode("latin-1"), int(counts[0]), int(counts[1]), counts[2], int(counts[3]))
 
 
 def fault_of_copy(at, n, asked):
@@ -91,11 +99,10 @@ def refused_at(ran):
 def may_give_up(case, at, replies, longest):
     """Whether there may be no room at this line: at the first, where a request of the start is refused, for the list that it names, or for a reply that
     is a list, longer than each before and than the room of the start."""
-    refused_first = case.requests[0] if case.requests else case.onward
     starts = STARTS if case.budget is None else ARGUMENTS + STARTS
     names_list = case.lines[at].split(b" ")[0] in (b"extend", b"walk", b"write")
     lists = [len(reply) for reply in replies if reply.startswith("list")]
-    return at == 0 and refused_first <= starts or names_list or max(lists, default=0) > max(longest, SHORT)
+    return at == 0 and case.first() <= starts or names_list or max(lists, default=0) > max(longest, SHORT)
 
 
 def ending(status, error):
