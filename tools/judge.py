@@ -47,6 +47,12 @@ class Run(NamedTuple):
     bytes: int = 0  # that were asked for
 
 
+def replies_of(text):
+    """What a program wrote, line by line."""
+    *replies, last = text.decode("latin-1").split("\n")
+    return replies + ([last + " without a line feed"] if last else [])
+
+
 class Fault(NamedTuple):
     at: int  # how many lines are before the one whose reply differs
     wanted: str
@@ -80,9 +86,7 @@ class Program:
         except subprocess.TimeoutExpired as late:
             ended, status = late, f"none within {self.patience} seconds"
         counts = log.read_text().split() if log.exists() else ["0", "0", "an unknown number", "0"]
-        *replies, last = (ended.stdout or b"").decode("latin-1").split("\n")
-        replies += [last + " without a line feed"] if last else []
-        return Run(replies, status, (ended.stderr or b"").decode("latin-1"), int(counts[0]), int(counts[1]), counts[2], int(counts[3]))
+        return Run(replies_of(ended.stdout or b""), status, (ended.stderr or b"").decode("latin-1"), int(counts[0]), int(counts[1]), counts[2], int(counts[3]))
 
 
 def fault_of_copy(at, n, asked):
