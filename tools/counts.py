@@ -1,5 +1,6 @@
 #!/usr/bin/env python3
-"""Looks for comparisons and moves that would not reach the caller's count, which no contract across crates can refuse.
+"""Looks for comparisons and moves that would not reach the caller's count, which no contract across crates can refuse. Needed where it tells a body: that
+hands its count not on, or compares without one.
 
 Only the calls of `Slots`, and of the cells under it, add moves. A new `Count` is made by public calls that take none, on a caller's behalf, and by those
 of OWN. A function that takes a caller's count calls no such function, nor a public one round it, without handing that count on. Keys are compared by

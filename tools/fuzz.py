@@ -1,5 +1,6 @@
 #!/usr/bin/env python3
-"""Sends random lines of each kind through the built program and through sorted lists (tools/models/replies.py), and compares each reply.
+"""Sends random lines of each kind through the built program and through sorted lists (tools/models/replies.py), and compares each reply. Needed where it told
+a seed, which is run again by its number, or where a command changed.
 
   tools/fuzz.py SECONDS [SEED] [--memory] [--runs N] [--jobs N] [--program PATH] [--tally]
 

@@ -1,6 +1,6 @@
 #!/usr/bin/env python3
 """Sends random lines through built programs that use intervals, timers, a table and a cache, and through a plain model of each (tools/models/), and compares
-each reply.
+each reply. Needed where it told a seed, or one of these programs changed.
 
   tools/fuzz_uses.py SECONDS [SEED] [--runs N] [--tally] [--only NAME] [--program PATH]
 

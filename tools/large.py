@@ -1,5 +1,6 @@
 #!/usr/bin/env python3
-"""Runs built programs on maps and sets of 100,000 and of 1,000,000 items, and others on 100,000 entries, beside sorted lists: none is refused.
+"""Runs built programs on maps and sets of 100,000 and of 1,000,000 items, and others on 100,000 entries, beside sorted lists: none is refused. Needed where a
+call that takes memory is new.
 
   tools/large.py [SIZE..]
 

@@ -1,6 +1,7 @@
 #!/usr/bin/env python3
-"""Looks that docs/LAWS.md lists the laws for callers, each by its statement, as `fallible_collections.proofs.Laws` hands them on. With --write it puts the lists right.
-And it looks that `fallible_collections` and `fc_laws` hand on the same words and laws of the crates that `fc_laws` stands on.
+"""Looks that docs/LAWS.md lists the laws for callers, each by its statement, as `fallible_collections.proofs.Laws` hands them on. With --write it puts the
+lists right. And it looks that `fallible_collections` and `fc_laws` hand on the same words and laws of the crates that `fc_laws` stands on. Needed where a law
+for callers is new or another.
 
 Between '<!-- laws -->' and '<!-- end of laws -->' stand, for each file that has some of them, what it says of itself, and its laws with the comments above them,
 under the parameters of their module."""

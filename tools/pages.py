@@ -1,5 +1,6 @@
 #!/usr/bin/env python3
-"""Looks that each page quotes the sources as they are. With --write it puts the quotations right.
+"""Looks that each page quotes the sources as they are. With --write it puts the quotations right. Needed after each change of a source that pages quote,
+count or list.
 
 A quotation is a block of code behind one of these lines in a Markdown file:
   <!-- code: FILE NAME.. -->       an excerpt: functions without their clauses and comments above them, as Rust would have them

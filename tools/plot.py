@@ -1,5 +1,6 @@
 #!/usr/bin/env python3
-"""Draws figures of docs/PERFORMANCE.md as multiples of std's: docs/multiples.svg (instructions) and docs/times.svg (times by size).
+"""Draws figures of docs/PERFORMANCE.md as multiples of std's: docs/multiples.svg (instructions) and docs/times.svg (times by size). Needed where
+bench/table.py wrote other figures.
 
   tools/plot.py            fails where a drawing is not that of the tables
   tools/plot.py --write    draws both"""

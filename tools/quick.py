@@ -1,5 +1,6 @@
 #!/usr/bin/env python3
-"""A first look, or a look at a change under way: runs every test, program and line by a trial, which proves nothing.
+"""A first look, or a look at a change under way: runs every test, program and line by a trial, which proves nothing. Needed before the gate, since it takes
+minutes.
 
   ./test --quick             all of them
   ./test --quick CRATE..     the tests and programs of these crates alone

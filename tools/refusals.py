@@ -1,6 +1,6 @@
 #!/usr/bin/env python3
 """Runs lines of each kind that may be refused through the built program with each request for memory refused in turn, and judges each run by sorted lists
-(tools/judge.py).
+(tools/judge.py). Needed where a line that may be refused is new.
 
   tools/refusals.py [--program PATH] [--probe PATH] [--memory PATH]
 

@@ -1,6 +1,7 @@
 #!/usr/bin/env python3
-"""Counts anew the numbers of docs/STATEMENTS.md, and looks that its rows are in order and that it names each file of definitions once. With --write it puts them right:
-where each call on one key says what it may cost, which files the definitions of the rows stand on, and by crate what only proofs need."""
+"""Counts anew the numbers of docs/STATEMENTS.md, and looks that its rows are in order and that it names each file of definitions once. With --write it puts
+them right: where each call on one key says what it may cost, which files the definitions of the rows stand on, and by crate what only proofs need. Needed
+where a file of definitions is new, or has another length."""
 import pathlib
 import re
 import sys

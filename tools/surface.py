@@ -1,4 +1,5 @@
-"""The public calls of the library, as the sources in a folder have them: what `tools/pages.py` quotes and `tools/changes.py` compares. It has no command of its own."""
+"""The public calls of the library, as the sources in a folder have them: what `tools/pages.py` quotes and `tools/changes.py` compares. It has no command of
+its own. Needed where the sources get another form."""
 import functools
 import pathlib
 import re
