@@ -29,6 +29,7 @@ def numbers():
         "waiting": waiting,
         "may wait": re.search(r"(?m)^MOST_WAITING = (\d+)$", (top / "tools/edits.py").read_text())[1],
         "tried": len(edits("edits")) - waiting,
+        "files of a call": re.search(r"(?m)^FILES = (\d+)\b", (top / "tools/new_call.py").read_text())[1],
         "commit": commit,
         "cores": cores,
         "minutes": minutes,
