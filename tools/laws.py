@@ -3,8 +3,8 @@
 lists right. And it looks that `fallible_collections` and `fc_laws` hand on the same words and laws of the crates that `fc_laws` stands on. Needed where a law
 for callers is new or another.
 
-Between '<!-- laws -->' and '<!-- end of laws -->' stand, for each file that has some of them, what it says of itself, and its laws with the comments above them,
-under the parameters of their module."""
+Between '<!-- laws -->' and '<!-- end of laws -->' stand, for each file that has some of them, what it says of itself, and its laws with the comments above
+them, under the parameters of their module."""
 import re
 import sys
 

@@ -15,7 +15,8 @@ NOT_CALLED = {"fc_map/src/map/for_sets.rt"}  # what the set needs of the map, an
 
 
 class Call(typing.NamedTuple):
-    """A public function: what it is called at, its name, its first line, what it promises and the comment above it, or above its impl of a trait, line by line."""
+    """A public function: what it is called at, its name, its first line, what it promises and the comment above it, or above its impl of a trait, line by
+    line."""
 
     owner: str
     name: str

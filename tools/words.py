@@ -1,9 +1,9 @@
 #!/usr/bin/env python3
 """Counts the words of README.md, CHANGELOG.md and docs/*.md that people write, and looks that they stay readable. Needed where a page grows.
 
-It fails where all pages have more than 15,400 words together, where a line of prose has more than 100 characters, and where a cell of a table has more than 25 words.
-What scripts write counts nowhere: code that tools/pages.py quotes, and the tables between marks that another script fills. Blocks of code and addresses may be wide.
-With --each it prints how many words each page has."""
+It fails where all pages have more than 15,400 words together, where a line of prose has more than 100 characters, and where a cell of a table has more than
+25 words. What scripts write counts nowhere: code that tools/pages.py quotes, and the tables between marks that another script fills. Blocks of code and
+addresses may be wide. With --each it prints how many words each page has."""
 import re
 import sys
 

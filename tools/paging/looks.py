@@ -1,5 +1,5 @@
-"""What tools/pages.py looks at beside quotations, numbers and tables: that what pages name is there, that each call that takes memory, each example, each choice
-and each difference has its place. Needed where a page is held to something new."""
+"""What tools/pages.py looks at beside quotations, numbers and tables: that what pages name is there, that each call that takes memory, each example, each
+choice and each difference has its place. Needed where a page is held to something new."""
 import functools
 import re
 
@@ -117,7 +117,8 @@ def gallery(page):
 
 
 def heads(page):
-    """The heads of a page's entries, their numbers left out: what an item says in bold, the first cell of a row, or the second where the first names nothing."""
+    """The heads of a page's entries, their numbers left out: what an item says in bold, the first cell of a row, or the second where the first names
+    nothing."""
     text = re.sub(r"[\w.,]*\w<!-- [a-z ]* -->", "N", page.read_text())
     items = re.findall(r"(?ms)^- \*\*(.+?)\*\*", text)
     rows = re.findall(r"(?m)^\| (?!-)(?:\(not there\) \| )?(.+?) \|.*\n(?!\|-)", text)

@@ -107,8 +107,8 @@ def page_imports(crate, below):
 
 
 def signatures(path, is_shown=lambda it: True):
-    """Those public functions of a file that are shown, with their clauses, under the line of their impl or trait, which stands once for those in a row. A counted form,
-    and any other that follows the function whose name it lengthens, tells what it promises beside that one."""
+    """Those public functions of a file that are shown, with their clauses, under the line of their impl or trait, which stands once for those in a row. A
+    counted form, and any other that follows the function whose name it lengthens, tells what it promises beside that one."""
     shown, last, owner_before, before = [], None, "", None
     for it in calls_in(path):
         if isinstance(it, Call) and is_inner(it):

@@ -1,5 +1,5 @@
-"""The tables that tools/pages.py writes between marks: calls of a page, words of its contracts, what stands for calls of std's, and what crates are and promise.
-Needed where a table is new, or a call hands something else back."""
+"""The tables that tools/pages.py writes between marks: calls of a page, words of its contracts, what stands for calls of std's, and what crates are and
+promise. Needed where a table is new, or a call hands something else back."""
 import functools
 import re
 
@@ -87,7 +87,8 @@ def crates():
 
 
 def promises():
-    """What is proved of each crate of the library, only tested, or neither, as its README says it. A README that says neither of them is told, if its crate has a function."""
+    """What is proved of each crate of the library, only tested, or neither, as its README says it. A README that says neither of them is told, if its crate
+    has a function."""
     kinds, rows = ("Proved", "Only tested", "Neither"), ["| Crate | Proved | Only tested | Neither |", "|---|---|---|---|"]
     for crate in (it for it in uses() if it.startswith("fc_")):
         text = "\n".join(read(f"crates/{crate}/README.md"))
