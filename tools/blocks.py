@@ -1,5 +1,6 @@
 #!/usr/bin/env python3
-"""Runs the blocks of commands in README.md and docs/USING.md as they are printed, one after another, as a reader types them in a clean clone.
+"""Runs the blocks of commands in README.md and docs/USING.md as they are printed, one after another, as a reader types them in a clean clone. Needed where a
+command of these pages is new, or prints another thing.
 
   tools/blocks.py            (the gate) after `rt ci`, which leaves proofs on this machine
   tools/blocks.py --quick    without the commands that prove or try, in seconds

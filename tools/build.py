@@ -1,5 +1,6 @@
 #!/usr/bin/env python3
-"""Proves and builds the program of crates/fcrun, or of the crate that is named, from its sources, one crate after another, and tells on standard error how far it is.
+"""Proves and builds the program of crates/fcrun, or of the crate that is named, from its sources, one crate after another, and tells on standard error how
+far it is. Needed to have the proved program without the gate.
 
 Where the program is built from the sources as they are, nothing is done. What is proved is kept, so a build that was cut off goes on
 where it was. How many seconds each crate took is kept in the crate's out/seconds, and told the next time."""

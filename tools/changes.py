@@ -1,5 +1,6 @@
 #!/usr/bin/env python3
 """Compares the public surface at two commits: calls, what traits state of types, types, and the definitions and laws that callers' clauses and proofs name.
+Needed where something public is another: CHANGELOG.md has to name it.
 
   tools/changes.py [OLD [NEW]]   what was added, is gone, or has another signature or clause, with both texts, as CHANGELOG.md lists it; OLD: the commit of the
                               newest entry of CHANGELOG.md; NEW: the files that are here

@@ -1,5 +1,6 @@
 #!/usr/bin/env python3
-"""Looks for comparisons and moves that would not reach the caller's count, which no contract across crates can refuse.
+"""Looks for comparisons and moves that would not reach the caller's count, which no contract across crates can refuse. Needed where it tells a body: that
+hands its count not on, or compares without one.
 
 Only the calls of `Slots`, and of the cells under it, add moves. A new `Count` is made by public calls that take none, on a caller's behalf, and by those
 of OWN. A function that takes a caller's count calls no such function, nor a public one round it, without handing that count on. Keys are compared by
@@ -9,7 +10,8 @@ import re
 import sys
 
 sys.dont_write_bytecode = True
-import edits
+from wrong_bodies.records import crates
+from wrong_bodies.stated import CLAUSE, TOKEN, clause_end
 
 MOVERS = {"fc_base/src/count.rt", "fc_tree_slots/src/cells.rt", "fc_tree_slots/src/cells/moves.rt", "fc_tree_slots/src/slots.rt"}
 # What compares keys without a count: methods, by a dot or their trait.
@@ -71,10 +73,10 @@ OWN = {
 class Function:
     def __init__(self, crate, path, text, name):
         self.crate, self.path, self.name, at, said = crate, f"{crate.name}/{path}", name, 0, []
-        while found := edits.TOKEN.match(text, at):
+        while found := TOKEN.match(text, at):
             at = found.end()
-            if re.fullmatch(edits.CLAUSE, found[0]):
-                at = edits.clause_end(text, at)
+            if re.fullmatch(CLAUSE, found[0]):
+                at = clause_end(text, at)
             elif not found["gap"] and not found[0].startswith(("//", "/*")):
                 said.append(found[0])
         body = said.index("{") if "{" in said else len(said)
@@ -147,16 +149,16 @@ def renamed(path, read):
 
 
 def main():
-    see = lambda body: Function(next(iter(edits.crates())), "", f"fn tried(count: &mut Count) {{ {body} }}", "tried")
+    see = lambda body: Function(next(iter(crates())), "", f"fn tried(count: &mut Count) {{ {body} }}", "tried")
     wrong = [f"this tool does not see '{body}'" for what, bodies in SEEN.items() for body in bodies if not getattr(see(body), what)]
     functions = [
         Function(crate, path, read.text[start:end].lstrip(), name)
-        for crate in edits.crates()
+        for crate in crates()
         if not re.search("^(test|probe)_", crate.name)
         for path, read in crate.sources().items()
         for start, end, name, _ in read.functions
     ]
-    for crate in edits.crates():
+    for crate in crates():
         files = [] if re.search("^(test|probe)_", crate.name) else crate.sources().items()
         wrong += [f"{crate.name}/{path}: {what} goes by another name" for path, read in files for what in renamed(path, read)]
         takes = [path for path, read in files if any(what.endswith("::add_moves") for _, what in read.used)]

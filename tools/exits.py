@@ -1,7 +1,7 @@
 #!/usr/bin/env python3
-"""Runs the built programs to each of their ends that needs no refused memory, and compares status, output and standard error: fcrun, and fcrun_memory with bytes
-enough, with none, and with words that are not one number; each example where its input fails; and talks to both programs as a person does, a line, its reply, and only
-then the next line: by pipes, and by a terminal.
+"""Runs the built programs to each of their ends that needs no refused memory, and compares status, output and standard error: fcrun, and fcrun_memory with
+bytes enough, with none, and with words that are not one number; each example where its input fails; and talks to both programs as a person does, a line, its
+reply, and only then the next line: by pipes, and by a terminal. Needed where a program ends, reads or writes in another way.
 
   tools/exits.py [PROGRAM [BYTES]]    looks at this one alone, in place of those that are built; with BYTES it is one that has a budget
 

@@ -1,18 +1,19 @@
 #!/usr/bin/env python3
-"""Sends random lines through built programs that use intervals, timers, a table and a cache, and through a plain model of each (tools/uses.py), and compares each
-reply.
+"""Sends random lines through built programs that use intervals, timers, a table and a cache, and through a plain model of each (tools/models/), and compares
+each reply. Needed where it told a seed, or one of these programs changed.
 
   tools/fuzz_uses.py SECONDS [SEED] [--runs N] [--tally] [--only NAME] [--program PATH]
 
-The programs are `probe_intervals`, `example_timers`, `example_index` and `example_cache`; --only runs one, which NAME names by its last word. A run is one of each,
-whose lines are drawn from a seed: SEED (else the time), SEED + 1, and so on, so that it is had again by its seed. At an even seed memory is ample, and each reply
-has to be the one that the model gives. At an odd seed requests for memory are refused, of which the run draws the numbers. A refusal that is told then has to be
-of a line that may be refused there, and the model stays as it was. As many refusals are told as there were requests refused, and each block of memory is given
-back. Where the first request is refused, the program ends.
+The programs are `probe_intervals`, `example_timers`, `example_index` and `example_cache`; --only runs one, which NAME names by its last word. A run is one of
+each, whose lines are drawn from a seed: SEED (else the time), SEED + 1, and so on, so that it is had again by its seed. At an even seed memory is ample, and
+each reply has to be the one that the model gives. At an odd seed requests for memory are refused, of which the run draws the numbers. A refusal that is told
+then has to be of a line that may be refused there, and the model stays as it was. As many refusals are told as there were requests refused, and each block of
+memory is given back. Where the first request is refused, the program ends.
 
-It takes SECONDS. With --runs it goes on until there were N runs, and fails where a line did not occur with each of its effects, or not on each number of entries:
-none, up to 15, up to 255, or more, which are trees of no, one, two and three levels. --tally prints how often each did. --program has another program run in the
-place of the one that --only names and `rt ci` built. A refusal above some hundreds of entries alone is seen by tools/large.py, in intervals and tables.
+It takes SECONDS. With --runs it goes on until there were N runs, and fails where a line did not occur with each of its effects, or not on each number of
+entries: none, up to 15, up to 255, or more, which are trees of no, one, two and three levels. --tally prints how often each did. --program has another
+program run in the place of the one that --only names and `rt ci` built. A refusal above some hundreds of entries alone is seen by tools/large.py, in
+intervals and tables.
 
 Where a reply or an ending differs, lines are dropped for as long as it still differs, and it prints the run's seed, the requests that are refused, the lines
 that are left, what was wanted and what was told. The last line is 'N passed, M failed', and the status is 0 where M is 0. It needs a C compiler."""
@@ -25,7 +26,8 @@ from typing import NamedTuple
 sys.dont_write_bytecode = True
 import fuzzing
 import judge
-import uses
+from models.programs import OTHERS, PROGRAMS
+from models.talk import Talk
 
 STARTS = 1  # how many requests for memory a program makes at its start
 REFUSED = "out of memory"
@@ -39,7 +41,7 @@ class Run(NamedTuple):
     name: str
     seed: int
     program: judge.Program
-    talk: uses.Talk
+    talk: Talk
     case: judge.Case
 
     def fault_in(self, case):
@@ -49,21 +51,21 @@ class Run(NamedTuple):
 
 def kinds_of(name):
     """Each kind of line of a program, by its name in the tally, with its effects."""
-    return {f"{name} {word}": effects for word, (_, effects) in {**uses.PROGRAMS[name][1].MODEL.KINDS, **uses.OTHERS}.items()}
+    return {f"{name} {word}": effects for word, (_, effects) in {**PROGRAMS[name][1].MODEL.KINDS, **OTHERS}.items()}
 
 
 def run_of(name, seed, program):
     draw = random.Random(seed)
-    talk = uses.PROGRAMS[name][1](draw)
+    talk = PROGRAMS[name][1](draw)
     requests = fuzzing.requests_of(draw, *talk.REFUSED) if seed % 2 else ()
     return Run(name, seed, program, talk, judge.Case(talk.lines(), requests=tuple(requests)))
 
 
 def fault_of(case, model, ran, see=lambda word, met, length: None):
-    """Where what was told differs from what the model gives, or None: the place of the line, what was wanted, and what was told. What each line meets is shown to
-    `see`, with the number of entries before it."""
+    """Where what was told differs from what the model gives, or None: the place of the line, what was wanted, and what was told. What each line meets is
+    shown to `see`, with the number of entries before it."""
     told, behind, refusals = ran.replies, 0, 0
-    if ran.refusals and case.requests[0] <= STARTS:
+    if ran.refusals and case.first() <= STARTS:
         return None if (told, ran.status, ran.kept) == ([], 1, "0") else (0, "status 1 and no reply", f"status {ran.status}, {told[:3]}")
     for at, line in enumerate(case.lines):
         word, answer = model.answered(line)
@@ -130,12 +132,12 @@ def fuzz(programs, words):
 
 def main():
     words = fuzzing.words_of(__doc__)
-    words.add_argument("--only", choices=uses.PROGRAMS)
+    words.add_argument("--only", choices=PROGRAMS)
     said = words.parse_args()
     if said.program and not said.only:
         words.error("--program wants --only NAME")
-    names = [said.only] if said.only else uses.PROGRAMS
-    built = {name: judge.top / f"crates/{uses.PROGRAMS[name][0]}/out/{uses.PROGRAMS[name][0]}" for name in names}
+    names = [said.only] if said.only else PROGRAMS
+    built = {name: judge.top / f"crates/{PROGRAMS[name][0]}/out/{PROGRAMS[name][0]}" for name in names}
     with tempfile.TemporaryDirectory() as folder:
         return fuzz({name: judge.Program(said.program or path, folder) for name, path in built.items()}, said)
 

@@ -1,5 +1,6 @@
 #!/usr/bin/env python3
-"""Runs built programs on maps and sets of 100,000 and of 1,000,000 items, and others on 100,000 entries, beside sorted lists: none is refused.
+"""Runs built programs on maps and sets of 100,000 and of 1,000,000 items, and others on 100,000 entries, beside sorted lists: none is refused. Needed where a
+call that takes memory is new.
 
   tools/large.py [SIZE..]
 
@@ -18,6 +19,9 @@ import time
 
 sys.dont_write_bytecode = True
 import judge
+from models.budgets import bytes_of, least_of, most_of
+from models.lines import extension
+from models.trees import CAPACITY, LEAST, requests_of_copy
 
 TOP = pathlib.Path(__file__).resolve().parent.parent
 SIZES = (100_000, 1_000_000)
@@ -54,8 +58,7 @@ class Lines:
     def extends(self, name, keys, value, a_line=A_LINE):
         """Extends by these keys, a few in a line; in a map each with this value times the key."""
         for first in range(0, len(keys), a_line):
-            words = (f"{key} {key * value}" if name in "ab" else str(key) for key in keys[first : first + a_line])
-            self.says(f"extend {name} " + " ".join(words), "done")
+            self.says(extension(name, keys[first : first + a_line], lambda key: key * value), "done")
         self.held[name].update((key, key * value) for key in keys)
 
     def clears(self, *names):
@@ -247,7 +250,7 @@ def nodes_of_insertions(n):
     eight and hands one up, and a new one has seven: with nine more that one does so too."""
     levels, come = [], n
     while come:
-        splits = max(0, (come - judge.CAPACITY - 1) // (judge.LEAST + 2) + 1)
+        splits = max(0, (come - CAPACITY - 1) // (LEAST + 2) + 1)
         levels.append(splits + 1)
         come = splits
     return levels[0], sum(levels[1:])
@@ -256,9 +259,9 @@ def nodes_of_insertions(n):
 def in_a_budget(lacks):
     """Ascending keys go one by one into a map, and then into a set, whose last one splits a leaf: in a budget of the bytes that all nodes then take, or of so
     many less, where that one is refused, all others stay, and it goes in once the map is cleared."""
-    n = OTHERS - (OTHERS - judge.CAPACITY - 1) % (judge.LEAST + 2)
-    last, enough = n - 1, sum(judge.bytes_of(place, *nodes_of_insertions(n)) for place in (0, 2))
-    assert sum(judge.least_of(place, n) for place in (0, 2)) <= enough <= sum(judge.most_of(place, n) for place in (0, 2))
+    n = OTHERS - (OTHERS - CAPACITY - 1) % (LEAST + 2)
+    last, enough = n - 1, sum(bytes_of(place, *nodes_of_insertions(n)) for place in (0, 2))
+    assert sum(least_of(place, n) for place in (0, 2)) <= enough <= sum(most_of(place, n) for place in (0, 2))
     lines = Lines()
     lines.held.update({"a": {key: key + 5 for key in range(n)}, "s": dict.fromkeys(range(last if lacks else n))})
     for line, reply in [(f"insert a {key} {key + 5}", "none") for key in range(n)] + [(f"add s {key}", "true") for key in range(last)]:
@@ -306,7 +309,7 @@ def counted(folder, program, load, sign, beside):
     fifths more serve the lists of keys, and such smaller trees."""
     ran = judge.Program(TOP / f"crates/{program}/out/{program}", folder).run(judge.Case([load.encode(), b"comparisons"]))
     compared = ran.replies[-1].split(sign)[-1] if ran.replies else ""
-    requests, comparisons = judge.requests_of_copy(LOADED)[0] * 7 // 5, LOADED * (LOADED.bit_length() + beside)
+    requests, comparisons = requests_of_copy(LOADED)[0] * 7 // 5, LOADED * (LOADED.bit_length() + beside)
     is_done = (ran.replies, ran.status, ran.kept) == ([f"{load}{sign}done", f"comparisons{sign}{compared}"], 0, "0")
     is_right = is_done and ran.requests <= requests and int(compared) <= comparisons
     said = f"{ran.requests} requests of {requests}, {compared} comparisons of {comparisons}"

@@ -1,16 +1,18 @@
 #!/usr/bin/env python3
-"""Looks that docs/LAWS.md lists the laws for callers, each by its statement, as `fallible_collections.proofs.Laws` hands them on. With --write it puts the lists right.
-And it looks that `fallible_collections` and `fc_laws` hand on the same words and laws of the crates that `fc_laws` stands on.
+"""Looks that docs/LAWS.md lists the laws for callers, each by its statement, as `fallible_collections.proofs.Laws` hands them on. With --write it puts the
+lists right. And it looks that `fallible_collections` and `fc_laws` hand on the same words and laws of the crates that `fc_laws` stands on. Needed where a law
+for callers is new or another.
 
-Between '<!-- laws -->' and '<!-- end of laws -->' stand, for each file that has some of them, what it says of itself, and its laws with the comments above them,
-under the parameters of their module."""
-import pathlib
+Between '<!-- laws -->' and '<!-- end of laws -->' stand, for each file that has some of them, what it says of itself, and its laws with the comments above
+them, under the parameters of their module."""
 import re
 import sys
 
-top = pathlib.Path(__file__).resolve().parent.parent
+sys.dont_write_bytecode = True
+from paging.sources import WRITES, ended, handed_on, top, with_between, wrong
+
 PAGE = top / "docs/LAWS.md"
-WHOLE, PART = top / "crates/fallible_collections", top / "crates/fc_laws"
+WHOLE, PART = "crates/fallible_collections", "crates/fc_laws"
 
 
 def lines_of(path):
@@ -63,32 +65,26 @@ def statements(path, names):
     return shown
 
 
-def handed_on(path):
-    """The names that a file hands on, by the crate and the module that have them."""
-    found = {}
-    for crate, file, names in re.findall(r"(?m)^pub use Rattle\.(\w+)\.(?:proofs|specs)\.(\w+)\.\{([^}]*)\}", path.read_text()):
-        found.setdefault((crate, file), []).extend(name.strip() for name in names.split(",") if name.strip())
-    return found
-
-
 def lists():
     parts = []
-    for (crate, file), names in handed_on(WHOLE / "proofs/Laws.antt").items():
+    for module, names in handed_on(f"{WHOLE}/proofs/Laws.antt").items():
+        _, crate, _, file = module.split(".")
         path = f"crates/{crate}/proofs/{file}.antt"
         parts.append(f"## `{crate}.proofs.{file}`\n\n{said_first(path)}\n\n```text\n" + "\n".join(statements(path, names)) + "\n```\n")
     return "\n".join(parts)
 
 
 for file in ("proofs/Laws.antt", "specs/Words.antt"):
-    whole, part = handed_on(WHOLE / file), handed_on(PART / file)
-    shared = {crate for crate, _ in part}
-    for module in {it for it in whole if it[0] in shared} | {*part}:
+    whole, part = handed_on(f"{WHOLE}/{file}"), handed_on(f"{PART}/{file}")
+    shared = {it.split(".")[1] for it in part}
+    for module in {it for it in whole if it.split(".")[1] in shared} | {*part}:
         if differing := {*whole.get(module, ())} ^ {*part.get(module, ())}:
-            sys.exit(f"tools/laws.py: one of fallible_collections and fc_laws hands on {', '.join(sorted(differing))} of {'.'.join(module)}, and the other does not")
+            sys.exit(f"tools/laws.py: one of fallible_collections and fc_laws hands on {', '.join(sorted(differing))} of {module}, and the other does not")
 
 text = PAGE.read_text()
-new = re.sub(r"(?s)(<!-- laws -->\n).*?(<!-- end of laws -->)", lambda it: f"{it[1]}\n{lists()}\n{it[2]}", text)
+new = with_between(text, "laws", f"\n{lists()}\n")
 if new != text:
-    if "--write" not in sys.argv:
-        sys.exit("docs/LAWS.md does not list the laws as the sources have them: tools/laws.py --write")
-    PAGE.write_text(new)
+    wrong.append("docs/LAWS.md does not list the laws as the sources have them: tools/laws.py --write")
+    if WRITES:
+        PAGE.write_text(new)
+ended()

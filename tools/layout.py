@@ -1,6 +1,7 @@
 #!/usr/bin/env python3
 """Looks that each source file is in the layout that `rt fmt` gives it, on a copy, and that no file is a link. The gate refuses a crate that is not, once it
-comes to it, and at once a tree that has a link: `rt ci` with names of crates does not look."""
+comes to it, and at once a tree that has a link: `rt ci` with names of crates does not look. Needed before sources are handed in: `rt fmt` puts right what it
+tells."""
 import filecmp
 import pathlib
 import shutil

@@ -1,7 +1,8 @@
 #!/usr/bin/env python3
-"""Looks that no function of a test owns so much that its proof is dear: at each exit all that it owns is given up, in seconds that grow with the square of how
-many collections there are. It fails where one binds three that were made by `?`, or makes one by a `?` beside an `&&`, but for those that tools/owners.txt
-excuses, and where such a one needs no excuse. What makes a collection is a function of its type, a copy, or a function of the crate that answers one."""
+"""Looks that no function of a test owns so much that its proof is dear: at each exit all that it owns is given up, in seconds that grow with the square of
+how many collections there are. It fails where one binds three that were made by `?`, or makes one by a `?` beside an `&&`, but for those that
+tools/owners.txt excuses, and where such a one needs no excuse. What makes a collection is a function of its type, a copy, or a function of the crate that
+answers one. Needed where it tells a test: that is split, or excused."""
 import itertools
 import pathlib
 import re

@@ -1,5 +1,5 @@
 #!/usr/bin/env python3
-"""Proves the code of the pages where a user pastes it, as it stands there.
+"""Proves the code of the pages where a user pastes it, as it stands there. Needed where code of a page does not stand alone in a user's crate.
 
   tools/pasted.py [NAME..]      NAME: what is taken, fallible_collections or fc_map, and both without names
 

@@ -1,13 +1,15 @@
 #!/usr/bin/env python3
-"""Draws figures of docs/PERFORMANCE.md as multiples of std's: docs/multiples.svg (instructions) and docs/times.svg (times by size).
+"""Draws figures of docs/PERFORMANCE.md as multiples of std's: docs/multiples.svg (instructions) and docs/times.svg (times by size). Needed where
+bench/table.py wrote other figures.
 
   tools/plot.py            fails where a drawing is not that of the tables
   tools/plot.py --write    draws both"""
-import pathlib
 import re
 import sys
 
-top = pathlib.Path(__file__).resolve().parent.parent
+sys.dont_write_bytecode = True
+from paging.sources import WRITES, ended, top, wrong
+
 PAGE = (top / "docs/PERFORMANCE.md").read_text()
 MOST = 2.0  # what is more is drawn at the edge, with its number
 LEFT, WIDTH, ROW = 265, 430, 19
@@ -103,7 +105,6 @@ def drawing(title, groups, legend):
     )
 
 
-wrong = []
 for file, title, (groups, legend) in [
     ("multiples.svg", "Instructions as multiples of std's: shorter is better", instructions()),
     ("times.svg", "Times as multiples of std's: further left is better", times()),
@@ -111,7 +112,6 @@ for file, title, (groups, legend) in [
     text, path = drawing(title, groups, legend), top / "docs" / file
     if not path.is_file() or path.read_text() != text:
         wrong.append(f"docs/{file} is not drawn from docs/PERFORMANCE.md as it is: tools/plot.py --write")
-        if "--write" in sys.argv:
+        if WRITES:
             path.write_text(text)
-if wrong and "--write" not in sys.argv:
-    sys.exit("\n".join(wrong))
+ended()

@@ -1,5 +1,5 @@
 #!/usr/bin/env python3
-"""Shows how far `rt ci` is: a line for each crate that is done, and in full what failed. Its last line is that of `rt ci`.
+"""Shows how far `rt ci` is: a line for each crate that is done, and in full what failed. Its last line is that of `rt ci`. Needed by ./test alone.
 
   rt ci 2>&1 | tools/progress.py LOG      LOG gets all that `rt ci` wrote"""
 import pathlib

@@ -1,5 +1,5 @@
 #!/usr/bin/env python3
-"""Whether proofs are written as a reader likes them. It prints what is not, a line each, and then fails.
+"""Whether proofs are written as a reader likes them. It prints what is not, a line each, and then fails. Needed after answers or lemmas were written.
 
   tools/proofs.py
 

@@ -1,5 +1,6 @@
 #!/usr/bin/env python3
-"""A first look, or a look at a change under way: runs every test, program and line by a trial, which proves nothing.
+"""A first look, or a look at a change under way: runs every test, program and line by a trial, which proves nothing. Needed before the gate, since it takes
+minutes.
 
   ./test --quick             all of them
   ./test --quick CRATE..     the tests and programs of these crates alone
@@ -15,6 +16,9 @@ import subprocess
 import sys
 import tempfile
 import time
+
+sys.dont_write_bytecode = True
+from models.files import lines_of_files
 
 CRATES = sorted(pathlib.Path("crates").iterdir())
 # Tests with this ending take all memory first. A trial's allocator does not give all that it has, so they fail there, by design, and show what they are to show
@@ -87,19 +91,15 @@ def program(crate):
 
 def lines(crate):
     """Runs the program on each input of lines/, with the request refused that it names, if it names one."""
-    by_request, passed, wrong = {"": {}}, 0, []
-    for case in pathlib.Path("lines").glob("*.in"):
-        request = case.with_suffix(".refuse")
-        texts = (case.read_bytes(), case.with_suffix(".out").read_bytes())
-        by_request.setdefault(request.read_text().strip() if request.exists() else "", {})[case.stem] = texts
-    for number, line in enumerate(pathlib.Path("lines/refused.txt").read_bytes().splitlines(), 1):
-        by_request[""][f"refused_{number}"] = (line + b"\n", b"line 1: not a command\n")
+    by_request, passed, wrong = {}, 0, []
+    for name, given, wanted, _, request in lines_of_files():
+        by_request.setdefault(request, {})[name.replace(".txt:", "_")] = given, wanted
     for request, cases in by_request.items():
         with tempfile.TemporaryDirectory() as room:
             for name, (given, wanted) in cases.items():
                 pathlib.Path(f"{room}/{name}").write_bytes(given)
                 pathlib.Path(f"{room}/{name}.stdout").write_bytes(wanted)
-            ran = tried(crate, *(["--fail-alloc", request] if request else []), "--cases", room)
+            ran = tried(crate, *(["--fail-alloc", str(request)] if request else []), "--cases", room)
         said = ran.stdout + ran.stderr
         found = re.findall(r"^case=.*$", said, re.M)
         differ = [it for it in found if "output=expected" not in it]

@@ -1,40 +1,38 @@
 #!/usr/bin/env python3
 """Runs lines of each kind that may be refused through the built program with each request for memory refused in turn, and judges each run by sorted lists
-(tools/judge.py).
+(tools/judge.py). Needed where a line that may be refused is new.
 
   tools/refusals.py [--program PATH] [--probe PATH] [--memory PATH]
 
-A case fills maps or sets, so that their trees have no, one, two, three or four levels, has one command, and then counts and lists all that is there. From the command's first
-request on each is refused in turn, and then all from that one on, and at last all behind the command's: the command has to be done or told as refused, what stands after it has
-to be what docs/COMMANDS.md says, and what was taken is given back. Where one request is refused, so many runs as the case says have to tell that the command was: by reasoning,
-one for a leaf that it makes, two for an inner node, and one for a list. At a key that is there none is made, so that it is answered with all memory refused.
+A case fills maps or sets, so that their trees have no, one, two, three or four levels, has one command, and then counts and lists all that is there. From the
+command's first request on each is refused in turn, and then all from that one on, and at last all behind the command's: the command has to be done or told as
+refused, what stands after it has to be what docs/COMMANDS.md says, and what was taken is given back. Where one request is refused, so many runs as the case
+says have to tell that the command was: by reasoning, one for a leaf that it makes, two for an inner node, and one for a list. At a key that is there none is
+made, so that it is answered with all memory refused.
 
-The program with a budget runs each case of one key or of two, and each of a whole map or set, in budgets of many sizes, from none on. What suffices just so is known
-by reasoning where the nodes are full, and is looked for else: in so many bytes nothing is refused, in one less the command is, or what fills before it. Where a request
-is refused in a budget that suffices just so, the command is refused, and done where it comes once more: what it had taken was given back.
+The program with a budget runs each case of one key or of two, and each of a whole map or set, in budgets of many sizes, from none on. What suffices just so
+is known by reasoning where the nodes are full, and is looked for else: in so many bytes nothing is refused, in one less the command is, or what fills before
+it. Where a request is refused in a budget that suffices just so, the command is refused, and done where it comes once more: what it had taken was given back.
 
 The probe of the map makes a map of many items in mixed order, and extends one by a vector, with each request refused in turn: all items are there
 then, or else what was there before and the whole vector.
 
-Trees are also looked at from outside: a command on a whole map or set is done where no request is refused, and after it, and after `retain` and `extract_if` in the
-probe of the map, a copy makes no fewer and no more requests than that of a sound tree of so many pairs can. With all memory refused, keys then go into each gap of those
-of up to 255 pairs: a leaf that takes more of them than a sound one has room for had too few. Where keys went in and out one by one, copies make just as many requests as
-those of the trees that tools/trees.py gives. It prints a line for each case, and last 'N passed, M failed'. It needs a C compiler."""
+Trees are also looked at from outside, as tools/outside.py says. It prints a line for each case, and last 'N passed, M failed'. It needs a C compiler."""
 import argparse
 import concurrent.futures
-import itertools
 import os
-import random
-import re
 import sys
 import tempfile
 from typing import NamedTuple
 
 sys.dont_write_bytecode = True
-import fuzz
 import judge
-import trees
-from judge import CAPACITY, LEAST, Case
+from judge import Case, refused_at
+from models.budgets import bytes_of, least_held, room_for
+from models.lines import extension
+from models.replies import COMES_BACK, Pairs, answered, command_of, refusal
+from models.trees import CAPACITY, LEAST
+from outside import kept, shapes, worn, wrong_shapes, wrong_worn
 
 STEPS = 4000  # so many steps of a walk fit in a line
 
@@ -46,11 +44,6 @@ class Row(NamedTuple):
     command: str
     told: int
     is_exact: bool = False
-
-
-def extend(name, keys):
-    """A line that extends the map or the set by these keys, in a map each with a value."""
-    return f"extend {name} " + " ".join(str(key) if name in "st" else f"{key} {key % 10}" for key in keys)
 
 
 # So many keys fill a leaf; sixteen leaves below a root of fifteen; and as many of these below another root. New keys lie in front, within and behind.
@@ -79,7 +72,7 @@ def full_order(keys):
 def extends(name, keys):
     """The lines that fill the map or the set, each with nodes that are full to its end."""
     order, each = full_order(keys) if keys else [], len(TWO) + 1
-    return [extend(name, order[at : at + each]) for at in range(0, len(order), each)]
+    return [extension(name, order[at : at + each]) for at in range(0, len(order), each)]
 
 
 def places(keys):
@@ -96,8 +89,8 @@ def cases():
     yield from at_one_key()
     yield from at_two_keys()
     yield from wholes()
-    yield Row([], extend("a", THREE), 19 + 3 * 2)
-    yield Row([], extend("s", THREE), 19 + 3 * 2)
+    yield Row([], extension("a", THREE), 19 + 3 * 2)
+    yield Row([], extension("s", THREE), 19 + 3 * 2)
 
 
 # With a full path a new key takes a leaf, two requests for an inner node on each level above, and two for a new root.
@@ -111,7 +104,7 @@ def at_one_key():
             for new in places(keys):
                 for line in lines_at(name, new):
                     yield Row(extends(name, keys), line, told, is_exact=True)
-            yield Row(extends(name, keys), extend(name, (NEW, NEW + 1)), told)
+            yield Row(extends(name, keys), extension(name, (NEW, NEW + 1)), told)
             for there in keys and (keys[0], keys[len(keys) // 2], keys[-1]):
                 for line in lines_at(name, there):
                     yield Row(extends(name, keys), line, 0, is_exact=True)
@@ -144,28 +137,28 @@ def wholes():
     # An append of many makes two leaves, an inner node, which takes two requests, and a list of each; the other leaves are those of both.
     for name, other, sizes in ("a", "b", (few, many)), ("b", "a", (few,)), ("s", "t", (few, many)), ("t", "s", (few,)):
         for keys, beyond, leaves in sizes:
-            yield Row([extend(name, keys)], f"copy {name}", leaves)
-            yield Row([extend(name, keys), extend(other, ONE)], f"copy {name}", leaves)
-            yield Row([extend(name, keys), extend(other, keys[::2])], f"append {name}", min(leaves, 6))
-            yield Row([extend(name, keys), extend(other, beyond)], f"append {name}", 2)
-            yield Row([extend(name, beyond), extend(other, keys)], f"append {name}", min(leaves, 6))
-            yield Row([extend(name, keys)], f"split {name} {keys[len(keys) // 2]}", 1 if leaves == 1 else 1 + 2 + 2)
-            yield Row([extend(name, keys), extend(other, ONE)], f"split {name} {keys[-1]}", 1 if leaves == 1 else 1 + 2 + 2)
-            yield Row([extend(name, keys)], f"walk {name} * * ffb", 1)
+            yield Row([extension(name, keys)], f"copy {name}", leaves)
+            yield Row([extension(name, keys), extension(other, ONE)], f"copy {name}", leaves)
+            yield Row([extension(name, keys), extension(other, keys[::2])], f"append {name}", min(leaves, 6))
+            yield Row([extension(name, keys), extension(other, beyond)], f"append {name}", 2)
+            yield Row([extension(name, beyond), extension(other, keys)], f"append {name}", min(leaves, 6))
+            yield Row([extension(name, keys)], f"split {name} {keys[len(keys) // 2]}", 1 if leaves == 1 else 1 + 2 + 2)
+            yield Row([extension(name, keys), extension(other, ONE)], f"split {name} {keys[-1]}", 1 if leaves == 1 else 1 + 2 + 2)
+            yield Row([extension(name, keys)], f"walk {name} * * ffb", 1)
             if name in "st":
                 for word, made in ("diff", leaves / 2), ("sym", leaves / 2), ("inter", leaves / 2), ("union", leaves):
-                    yield Row([extend(name, keys), extend(other, keys[::2])], f"{word} {name}", 1)
-                    yield Row([extend(name, keys), extend(other, keys[::2])], f"keep {word} {name}", max(1, int(made)))
+                    yield Row([extension(name, keys), extension(other, keys[::2])], f"{word} {name}", 1)
+                    yield Row([extension(name, keys), extension(other, keys[::2])], f"keep {word} {name}", max(1, int(made)))
     # Two leaves with more pairs than one node holds, which stay below a new root.
     for name, other in "ab", "st":
-        yield Row([extend(name, range(1, 12)), extend(other, range(12, 23))], f"append {name}", 2)
-    yield Row([extend("a", THREE)], "write a * * f=7 b=8 f=9", 0)
+        yield Row([extension(name, range(1, 12)), extension(other, range(12, 23))], f"append {name}", 2)
+    yield Row([extension("a", THREE)], "write a * * f=7 b=8 f=9", 0)
 
 
 def shows_of(asked, size):
     """The lines that show what is there: how much; what lies about a key that the command names, which takes no memory; and all, from both ends."""
     names = "st" if asked.names[0] > 1 else "ab"
-    about = {names[asked.names[0] % 2]: asked.said[0]} if asked.word in judge.COMES_BACK else {}
+    about = {names[asked.names[0] % 2]: asked.said[0]} if asked.word in COMES_BACK else {}
     about |= {"b": asked.said[2]} if asked.word == "both" else {}
     yield from (f"len {name}" for name in names)
     for name, key in about.items():
@@ -177,7 +170,7 @@ def shows_of(asked, size):
 
 def wrong_of(program, row):
     """What is wrong in the runs of a case; how many requests are refused in turn, and how many refusals of the command are told."""
-    asked = judge.command_of(row.command.encode())
+    asked = command_of(row.command.encode())
     size = sum(len(line.split(" ")) for line in [*row.fill, row.command])
     # The reply to so long a walk makes room for the text of those after it.
     lines = [line.encode() for line in [f"walk a * * {'f' * min(3 * size + 100, STEPS)}", *row.fill, row.command, *shows_of(asked, size)]]
@@ -188,7 +181,7 @@ def wrong_of(program, row):
         case = Case(lines, **refused)
         ran = program.run(case)
         fault = judge.fault_of(case, ran)
-        told += "requests" in refused and ran.replies[at : at + 1] == [judge.refusal(asked)]
+        told += "requests" in refused and ran.replies[at : at + 1] == [refusal(asked)]
         if fault:
             wrong.append(f"  {refused}: line {fault.at + 1}, {lines[fault.at][:100].decode()}: wanted {fault.wanted[:300]}, told {fault.told[:300]}")
     if told < row.told or row.is_exact and max(told, behind - first) > row.told:
@@ -202,14 +195,14 @@ SIZES_OF_BUDGETS = 8  # in so many budgets that do not suffice does each case ru
 
 
 def taken_by(row):
-    """What a case of one key or of two takes of a budget: its nodes are full, so they are as few as can be, and then those that the command makes. Of these each leaf
-    makes one request and each node above two, so an odd number of requests has one leaf, and an even one two."""
-    world = [judge.Pairs()] * 4
+    """What a case of one key or of two takes of a budget: its nodes are full, so they are as few as can be, and then those that the command makes. Of these
+    each leaf makes one request and each node above two, so an odd number of requests has one leaf, and an even one two."""
+    world = [Pairs()] * 4
     for line in row.fill:
-        _, world = judge.answered(world, judge.command_of(line.encode()))
+        _, world = answered(world, command_of(line.encode()))
     leaves = row.told and 2 - row.told % 2
-    name = judge.command_of(row.command.encode()).names[0]
-    return judge.least_held(world) + judge.bytes_of(name, leaves, (row.told - leaves) // 2)
+    name = command_of(row.command.encode()).names[0]
+    return least_held(world) + bytes_of(name, leaves, (row.told - leaves) // 2)
 
 
 def least_room(program, lines, most):
@@ -225,18 +218,13 @@ def least_room(program, lines, most):
     return most
 
 
-def refused_at(ran):
-    """The places of the lines that were refused."""
-    return [at for at, reply in enumerate(ran.replies) if reply.startswith("refused")]
-
-
 def wrong_within(program, row):
     """What is wrong in the runs of a case in budgets, and in how many it ran. Where a request is refused too the command comes twice."""
-    asked = judge.command_of(row.command.encode())
+    asked = command_of(row.command.encode())
     size = sum(len(line.split(" ")) for line in [*row.fill, row.command])
     lines = [line.encode() for line in [*row.fill, row.command, *shows_of(asked, size)]]
     filled, wrong = len(row.fill), []
-    enough = taken_by(row) if row.is_exact else least_room(program, lines, judge.room_for(lines))
+    enough = taken_by(row) if row.is_exact else least_room(program, lines, room_for(lines))
     budgets = sorted({enough, max(0, enough - 1), 2**64 - 1, *(enough * part // SIZES_OF_BUDGETS for part in range(SIZES_OF_BUDGETS))})
     for budget in budgets:
         case = Case(lines, budget=budget)
@@ -270,7 +258,7 @@ def tried(work):
     sizes = {}
     for line in row.fill:
         name = line.split(" ")[1]
-        sizes[name] = sizes.get(name, 0) + len(judge.command_of(line.encode()).said[0])
+        sizes[name] = sizes.get(name, 0) + len(command_of(line.encode()).said[0])
     before = ", ".join(f"{name} of {size}" for name, size in sizes.items()) or "nothing"
     said = f"{row.command[:40]} after {before}: {requests} requests, {told} told: {'FAILED' if wrong else 'ok'}"
     return not wrong, "\n".join([said, *wrong[:5]])
@@ -322,161 +310,6 @@ def tried_load(work):
         wrong.append(f"  {told} of {len(runs)} runs were told as refused")
     said = f"{load.row} after {load.before}: {behind - first} requests, {told} of {len(runs)} told"
     return not wrong, "\n".join([f"{said}: {'FAILED' if wrong else 'ok'}", *wrong[:5]])
-
-
-# Trees from outside.
-
-SIZES = (1, 15, 16, 30, 127, 255, 600, 1400)
-
-
-def extended(name, keys):
-    """Lines that extend by these keys, each no longer than a line may be."""
-    each = 300
-    return [extend(name, keys[i : i + each]) for i in range(0, len(keys), each)]
-
-
-def shapes():
-    """What makes a tree: a word for it, and the lines."""
-    for n in SIZES:
-        keys = range(2, 2 + 2 * n, 2)
-        for order in keys, keys[::-1], [*keys[::2], *keys[1::2]], [*keys[::2], *keys[-1::-2]]:
-            yield "extend", extended("a", order)
-        for m in SIZES:
-            beyond, between, same = range(2 * n + 5, 2 * n + 5 + m), range(3, 3 + 2 * m, 2), range(2, 2 + 2 * m, 2)
-            yield "extend", [*extended("s", keys), *extended("s", beyond)]
-            for more in beyond, between, same:
-                yield "append", [*extended("a", keys), *extended("b", more), "append a"]
-                yield "keep union", [*extended("s", more), *extended("t", keys), "keep union s"]
-            yield "append", [*extended("a", beyond), *extended("b", keys), "append a"]
-        for place in sorted({0, 1, 7, 8, n // 3, n // 2, n - 8, n - 1} & set(range(n))):
-            for order in keys, keys[::-1]:
-                yield "split", [*extended("a", order), f"split a {keys[place]}"]
-
-
-def kept():
-    """The rows of the probe of the map by which some pairs stay, or are taken out: so many of ten, so many in a row alike."""
-    for n in SIZES[:-2] + (170, 500):
-        for tenths in 0, 1, 3, 5, 7, 9:
-            for in_a_row in 1, 6, 60:
-                for word in "retain", "extract":
-                    yield word, [f"{word} 0 {n} 1 {tenths} {in_a_row} {tenths + n}"]
-
-
-APART = 16  # so far apart are keys where new ones go between them
-PROBED = 255  # the most pairs of a tree whose leaves are filled
-
-
-def spread(lines):
-    """The lines with numbers that lie apart, and what stands behind them."""
-    lines, world = [re.sub("[0-9]+", lambda number: str(APART * int(number[0])), line).encode() for line in lines], [judge.Pairs()] * 4
-    for line in lines:
-        _, world = judge.answered(world, judge.command_of(line))
-    return lines, world
-
-
-def short_leaves(program, name, lines, keys):
-    """The keys behind which a leaf takes more new ones than it may have room for, where no memory is to be had from the end of the lines on."""
-    room, word = CAPACITY - LEAST, {"a": "insert a {} 7", "b": "insert b {} 7", "s": "add s {}", "t": "add t {}"}[name]
-    gaps = [0, *keys]
-    tried = [word.format(key + more).encode() for key in gaps for more in range(1, room + 2)]
-    ran = program.run(Case(lines + tried, onward=program.run(Case(lines)).requests + 1))
-    if len(ran.replies) != len(lines) + len(tried):
-        return [judge.ending(ran.status, ran.error)]
-    taken = [not reply.startswith("refused") for reply in ran.replies[len(lines) :]]
-    return [key for i, key in enumerate(gaps) if all(taken[i * (room + 1) : (i + 1) * (room + 1)])]
-
-
-def wrong_leaves(lines):
-    """A function that tells what is wrong with the leaves of a tree behind the lines, by its program and its name; of a lone leaf, nothing is."""
-    lines, world = spread(lines)
-
-    def told(program, name):
-        keys = world[judge.NAMES[name.encode()]].keys
-        return short_leaves(program, name, lines, keys) if CAPACITY < len(keys) <= PROBED else []
-
-    return told
-
-
-def wrong_shapes(work):
-    """What makes a tree, and what is wrong with those that stand then."""
-    program, (word, lines) = work
-    names = [""] if word in ("retain", "extract") else [" s", " t"] if lines[0].split(" ")[1] in "st" else [" a", " b"]
-    made, leaves = f"  {lines[-1][:60]} after {len(lines) - 1} lines", wrong_leaves(lines) if names[0] else None
-    lines = [line.encode() for line in lines + [f"len{name}" for name in names]]
-    ran = program.run(Case(lines))
-    if ran.status != 0:
-        return word, [f"{made}: {judge.ending(ran.status, ran.error)}"]
-    wrong = [f"{made}: line {at + 1} was refused, and no request was" for at in refused_at(ran)]
-    for name, reply in zip(names, ran.replies[-len(names) :]):
-        copied = program.run(Case([*lines, f"copy{name}".encode()]))
-        fault = judge.fault_of_copy(len(lines), int(reply.split(" ")[-1]), copied.requests - ran.requests)
-        wrong += [f"{made}: wanted {fault.wanted}, told {fault.told}"] if fault else []
-        short = leaves(program, name[1:]) if leaves else []
-        wrong += [f"{made}, each number {APART}-fold: too few pairs in leaves of{name}, at {short[:5]}"] if short else []
-    return word, wrong
-
-
-# Trees that lines of one key make and wear.
-
-WORN = fuzz.THIN[4]  # so many keys go in, which stand on four levels where they come in descending order
-COPIED = 50  # a copy comes at each line of so many
-SINGLY = {
-    ("a", "put"): ("insert a {} 7", "entry a {} 7 8"),
-    ("a", "take"): ("remove a {}", "evict a {}"),
-    ("s", "put"): ("add s {}", "replace s {}"),
-    ("s", "take"): ("take s {}", "drop s {}"),
-}
-
-
-def orders():
-    """What is done with keys, in several orders: most go in and out, then half of them again, and at last all go out."""
-    draw, keys = random.Random(1), list(range(1, WORN + 1))
-    for coming, going in itertools.product(("ascending", "descending", "at random"), fuzz.ORDERS):
-        into, out = (fuzz.ORDERS[order](draw, keys) for order in (coming, going))
-        yield [("put", into), ("take", out[: WORN * 5 // 6]), ("put", draw.sample(keys, WORN // 2)), ("take", out)]
-
-
-def worn():
-    """Lines of one key each on a map or a set, with copies between them, and the requests that each copy is to make."""
-    for steps, name in zip(orders(), itertools.cycle("as")):
-        tree, lines, wanted = trees.Tree(), [], []
-        for at, (call, key) in enumerate((call, key) for call, keys in steps for key in keys):
-            getattr(tree, call)(key)
-            lines.append(SINGLY[name, call][at % 2].format(key))
-            if at % COPIED == 0:
-                lines.append(f"copy {name}")
-                wanted.append(tree.requests())
-        yield lines, wanted
-
-
-def is_copy(line):
-    return line.startswith("copy")
-
-
-def front(lines, copies):
-    """The lines up to the last of so many copies."""
-    return lines[: [at for at, line in enumerate(lines) if is_copy(line)][copies - 1] + 1]
-
-
-def asked_by_copies(program, lines):
-    """How many requests the copies among the lines make together, or None where a run doesn't end well."""
-    runs = [program.run(Case([line.encode() for line in some])) for some in (lines, [line for line in lines if not is_copy(line)])]
-    return None if any(ran.status for ran in runs) else runs[0].requests - runs[1].requests
-
-
-def wrong_worn(work):
-    """What is wrong with the copies among lines of one key each: the first that makes other requests, as the requests of all up to it tell."""
-    program, (lines, wanted) = work
-    if asked_by_copies(program, lines) == sum(wanted):
-        return "one key", []
-    least, most = 0, len(wanted)
-    while most - least > 1:
-        middle = (least + most) // 2
-        is_well = asked_by_copies(program, front(lines, middle)) == sum(wanted[:middle])
-        least, most = (middle, most) if is_well else (least, middle)
-    shown = front(lines, most)
-    told = asked_by_copies(program, shown)
-    return "one key", [f"  {shown[-2]} after {len(shown) - 2} lines from {shown[0]} on: wanted {sum(wanted[:most])} requests of {most} copies, told {told}"]
 
 
 def main():

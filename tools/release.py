@@ -1,5 +1,5 @@
 #!/usr/bin/env python3
-"""Makes an archive of the library with what was proved of it, from which `tools/take.py --from` takes.
+"""Makes an archive of the library with what was proved of it, from which `tools/take.py --from` takes. Needed to hand the library on with its proofs.
 
   tools/release.py --write FOLDER [--gate LOG]   makes FOLDER/fallible_collections-VERSION-KIT.tar.zst, or .tar.xz where there is no zstd; LOG: what ./test printed
   tools/release.py --over                        tells the commit and the kit, as ./test prints them

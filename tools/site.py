@@ -1,5 +1,6 @@
 #!/usr/bin/env python3
-"""Makes a site of the library's calls, words and pages, as plain HTML that opens from a folder.
+"""Makes a site of the library's calls, words and pages, as plain HTML that opens from a folder. Needed to read the calls by type, or where a public call has
+no text.
 
   tools/site.py [--check]         makes it and writes nothing; it fails at a link that leads nowhere, a word of a contract without a definition, a public call
                                without a text, and HTML that is not well-formed

@@ -1,5 +1,6 @@
 #!/usr/bin/env python3
 """Looks that the sizes of a tree are said by their names (crates/fc_base/specs/Sizes.antt; in code by a constant), and tells each number in the place of one.
+Needed where it tells a number: that gets the size's name, or a reason.
 
 In the crates of the tree it looks at every line of code, clauses, definitions and proofs, for each size, one more, one less, and twice it. In the code of
 tests it looks at clauses, at types with a length, and at comparisons of lengths, for the sizes alone; in their proofs at every line.

@@ -1,14 +1,16 @@
 #!/usr/bin/env python3
-"""Counts anew the numbers of docs/STATEMENTS.md, and looks that its rows are in order and that it names each file of definitions once. With --write it puts them right:
-where each call on one key says what it may cost, which files the definitions of the rows stand on, and by crate what only proofs need."""
+"""Counts anew the numbers of docs/STATEMENTS.md, and looks that its rows are in order and that it names each file of definitions once. With --write it puts
+them right: where each call on one key says what it may cost, which files the definitions of the rows stand on, and by crate what only proofs need. Needed
+where a file of definitions is new, or has another length."""
 import pathlib
 import re
 import sys
 
-top = pathlib.Path(__file__).resolve().parent.parent
+sys.dont_write_bytecode = True
+from paging.sources import WRITES, between, ended, top, with_between, wrong
+
 page = top / "docs/STATEMENTS.md"
 text = page.read_text()
-wrong = []
 
 
 def lines(path):
@@ -49,12 +51,10 @@ def bounded_calls():
 
 def with_list(text, mark, lines):
     """The page with these lines between a mark and its end."""
-    begin, end = f"<!-- {mark} -->\n", f"<!-- end of {mark} -->"
-    before, _, rest = text.partition(begin)
-    old, _, after = rest.partition(end)
-    if old != "\n".join(lines) + "\n":
+    new = "\n".join(lines) + "\n"
+    if between(text, mark) != new:
         wrong.append(f"the {mark} are others than those that the page lists")
-    return before + begin + "\n".join(lines) + "\n" + end + after
+    return with_between(text, mark, new)
 
 
 def row(found):
@@ -91,7 +91,6 @@ numbers = (
 kept = re.sub(r"(?s)The \d+ files that the headline rests on .*? need\s+have \d+\s+lines\.", numbers, text)
 if kept != text:
     wrong.append("the sums are wrong")
-if "--write" in sys.argv:
+if WRITES:
     page.write_text(kept)
-elif wrong:
-    sys.exit("\n".join(wrong))
+ended()

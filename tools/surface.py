@@ -1,4 +1,5 @@
-"""The public calls of the library, as the sources in a folder have them: what `tools/pages.py` quotes and `tools/changes.py` compares. It has no command of its own."""
+"""The public calls of the library, as the sources in a folder have them: what `tools/pages.py` quotes and `tools/changes.py` compares. It has no command of
+its own. Needed where the sources get another form."""
 import functools
 import pathlib
 import re
@@ -14,7 +15,8 @@ NOT_CALLED = {"fc_map/src/map/for_sets.rt"}  # what the set needs of the map, an
 
 
 class Call(typing.NamedTuple):
-    """A public function: what it is called at, its name, its first line, what it promises and the comment above it, or above its impl of a trait, line by line."""
+    """A public function: what it is called at, its name, its first line, what it promises and the comment above it, or above its impl of a trait, line by
+    line."""
 
     owner: str
     name: str

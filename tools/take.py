@@ -1,5 +1,5 @@
 #!/usr/bin/env python3
-"""Takes the library, or crates of it, into another repository, and brings what was taken before up to date.
+"""Takes the library, or crates of it, into another repository, and brings what was taken before up to date. Needed by users.
 
   tools/take.py FOLDER [CRATE..]     CRATE: fallible_collections (the default at the first time), one of the crates that it stands on, or of those beside it
   tools/take.py --from ARCHIVE FOLDER [CRATE..]    the same from an archive that tools/release.py made, with what was proved of the crates

@@ -1,4 +1,5 @@
-"""The public calls that no test makes, as `tools/pages.py` tells them. It has no command of its own.
+"""The public calls that no test makes, as `tools/pages.py` tells them. It has no command of its own. Needed where a call is made in a way that it does not
+know.
 
 Tests here are the sources of the crates whose names begin with one of TESTS: each holds tests, or tests or rows of text run what it holds. A call counts as
 made where such a source uses its type and has its name behind a dot, or behind `::`, which where it takes no `self` has its type ahead; or where it has what

@@ -1,5 +1,5 @@
 #!/usr/bin/env python3
-"""What the gate costs.
+"""What the gate costs. Needed where the gate takes longer than docs/GATE.md says.
 
   tools/times.py ./test                  runs a command of the toolchain and tells the processor time that its checks took, crate by crate
   tools/times.py --write ./test --anew   and writes it into docs/GATE.md and docs/USING.md, if the command proved all from nothing and ended well

@@ -1,10 +1,37 @@
-"""Which nodes a tree has that was made by insertions and removals of one key each, by the rules of docs/DESIGN.md. It shares no code with the library.
+"""Which nodes trees have: how many a sound one of so many pairs has at the least and at the most, and just which one has that was made by insertions and
+removals of one key each, by the rules of docs/DESIGN.md. It shares no code with the library. Needed where the shape of a node or of a tree changes.
 
 How many requests a copy makes tells the nodes from outside: tools/refusals.py counts by it. What append, split_off and retain leave is free
 within those rules, so no call here does as they do."""
 import bisect
+import functools
 
-from judge import CAPACITY, LEAST
+CAPACITY = 15  # the most pairs of a node: with as many, a map may need a node for a new key
+LEAST = 7  # the fewest pairs of a node that is not the root
+
+
+@functools.cache
+def nodes_of(n):
+    """How many leaves and how many nodes above them a sound tree of n pairs has, at the least and at the most, and on how many levels then.
+
+    Between two neighbouring leaves stands one pair of a node above. So where there are several leaves, each with its 7 to 15 pairs takes 8 to 16 of n + 1.
+    A node above has a child more than pairs, so 8 to 16 of the level below, but the root 2 at least. A level has the fewest nodes, or the most, where the one
+    below it has: as few as hold all, or as many as find 8 each, or one, the root."""
+    if n == 0:
+        return (0, 0, 0), (0, 0, 0)
+    trees = []
+    for above in (lambda places: -(-places // (CAPACITY + 1)), lambda places: max(1, places // (LEAST + 1))):
+        levels = [above(n + 1)]
+        while levels[-1] > 1:
+            levels.append(above(levels[-1]))
+        trees.append((levels[0], sum(levels[1:]), len(levels)))
+    return tuple(trees)
+
+
+def requests_of_copy(n):
+    """How many requests the copy of a sound tree of n pairs makes, at the least and at the most: it has the same nodes, of which a leaf asks once and one above
+    twice."""
+    return [leaves + 2 * above for leaves, above, _ in nodes_of(n)]
 
 
 class Node:
