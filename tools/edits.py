@@ -10,7 +10,8 @@
                               the crate is not proved whole, which pays where few are left. It leaves out those that change more than bodies
   --jobs N                    is for rt check, which first proves the crate over what it kept
 
-An edit is a line 'file: src/FILE' and pairs of lines 'old: TEXT' and 'new: TEXT'; each old text stands in the file once. In a text ⏎ is a line's end.
+An edit is a line 'file: src/FILE' and pairs of lines 'old: TEXT' and 'new: TEXT'; each old text stands in the file once. In a text ⏎ is a line's end, but not
+in must-fail/, which the toolchain tries, and leaves out what it can't read.
 A body is proved by the contracts of what it calls, and by no other body. So one check tries many edits that change different functions, while an edit that
 changes a clause, a type or a constant is tried alone. An edit is refused where a goal of a function that it changes is not proved. It fails if it cannot
 be applied or compiled, if all is proved with it, and if nothing is refused but a proof file's mention of what the edit took away.
@@ -52,8 +53,10 @@ ALONE = {
 
 
 def not_applied(crate):
-    every = [*crate.edits("must-fail"), *crate.edits()]
-    return [f"{it.told}: {why}" for it in every for _, why in [it.applied({})] if why]
+    """The edits that can't be applied, each with why. Those of must-fail/ the toolchain applies, and one of more lines it leaves out, by a note alone."""
+    gate, every = crate.edits("must-fail"), crate.edits()
+    long = [f"{it.told}: it has a text of more than a line, which the toolchain does not read" for it in gate if "⏎" in it.text]
+    return long + [f"{it.told}: {why}" for it in (*gate, *every) for _, why in [it.applied({})] if why]
 
 
 def not_covered(crate):
