@@ -13,6 +13,7 @@ again, for an hour: there a trial compiles the code, and proves nothing.
 It prints a line for each page, and last 'N passed, M failed'."""
 import pathlib
 import re
+import shutil
 import subprocess
 import sys
 import tempfile
@@ -28,12 +29,13 @@ PROGRAM = re.compile(r"(?m)^fn main\(")
 
 
 class Piece(NamedTuple):
-    """A file of pasted code: its page, the crates that the page's line of crates.txt names, its text and how many functions it has."""
+    """A file of pasted code: its page, the crates that the page's line of crates.txt names, its text, how many functions it has, and where it is from."""
 
     page: str
     line: str
     text: str
     functions: int
+    source: str = ""
 
 
 def line_of(text, taken):
@@ -53,7 +55,7 @@ def pieces_of(page, text, taken, line):
         elif kind == "proved" and is_open:
             found[-1] = found[-1]._replace(text=f"{found[-1].text}\n{code}", functions=found[-1].functions + len(words.split()[1:]))
         elif kind != "proved" and taken == "fallible_collections":
-            found.append(Piece(page, line, code, len(re.findall(r"(?m)^(?:pub )?fn ", code))))
+            found.append(Piece(page, line, code, len(re.findall(r"(?m)^(?:pub )?fn ", code)), words.split()[0]))
             is_open = False
     return found
 
@@ -68,7 +70,8 @@ def astray(repository, page, text):
 
 
 def write_crates(repository, pieces):
-    """Writes a crate for each program, and for each line of crates.txt one with a file for each other piece. Answers the crates' names."""
+    """Writes a crate for each program, which reads and prints what its source does, and for each line of crates.txt one with a file for each other piece.
+    Answers the crates' names."""
     names = {}
     for number, piece in enumerate(pieces):
         is_program = bool(PROGRAM.search(piece.text))
@@ -79,6 +82,8 @@ def write_crates(repository, pieces):
         root = source / "lib.rt"
         if not is_program:
             root.write_text(f"{root.read_text() if root.exists() else FIRST_LINE}pub mod piece_{number:02};\n")
+        for given in (top / piece.source).parent.parent.glob("std*") if is_program else ():
+            shutil.copy(given, source.parent)
     with (repository / "crates.txt").open("a") as lines:
         lines.writelines(f"{name}: {line}\n" for (line, _), name in names.items())
     return list(names.values())
