@@ -34,13 +34,12 @@ fn lent(text: Option<&String>, out: &mut Out) {
     }
 }
 
-// The numbers below 100, put in from the last on or from the first on.
-fn hundred(alloc: Global, is_falling: bool) -> Result<BTreeSet<u64>, TryReserveError> {
-    let mut set = BTreeSet::new(alloc);
+// Puts in the numbers below 100, from the last on or from the first on.
+fn put_hundred(set: &mut BTreeSet<u64>, is_falling: bool) -> Result<(), TryReserveError> {
     for number in 0..100u64 {
         set.try_insert(if is_falling { 99 - number } else { number })?;
     }
-    Ok(set)
+    Ok(())
 }
 
 fn hashed(set: &BTreeSet<u64>) -> u64 {
@@ -49,10 +48,19 @@ fn hashed(set: &BTreeSet<u64>) -> u64 {
     hasher.finish()
 }
 
+// Whether two sets of the same numbers are equal and hashed alike. They are empty, and their caller's, which gives them up once.
+fn are_alike(up: &mut BTreeSet<u64>, down: &mut BTreeSet<u64>) -> Result<bool, TryReserveError> {
+    put_hundred(up, false)?;
+    put_hundred(down, true)?;
+    Ok(*up == *down && hashed(up) == hashed(down))
+}
+
 // Answers whether two sets of the same numbers are equal and hashed alike, whatever the order that they were put in.
 pub(crate) fn hash(alloc: Global, out: &mut Out) {
-    match (hundred(alloc, false), hundred(alloc, true)) {
-        (Ok(up), Ok(down)) => out.is(up == down && hashed(&up) == hashed(&down)),
-        _ => out.word("no memory"),
+    let mut up = BTreeSet::new(alloc);
+    let mut down = BTreeSet::new(alloc);
+    match are_alike(&mut up, &mut down) {
+        Ok(is_alike) => out.is(is_alike),
+        Err(_refused) => out.word("no memory"),
     }
 }

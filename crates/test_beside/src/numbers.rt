@@ -170,24 +170,37 @@ fn are_written(alloc: Global, count: u64, number: u64) -> Result<bool, TryReserv
     Ok(true)
 }
 
-// Whether each call's pair is taken out, and all others stay.
+// Takes out what a call finds next to the number, the calls in the order of `wanted`.
+fn take_beside(map: &mut Numbers, number: u64, call: usize) -> u64 {
+    match call {
+        0 => take_from(map, number),
+        1 => take_after(map, number),
+        2 => take_to(map, number),
+        _ => take_before_it(map, number),
+    }
+}
+
+// Whether the call takes out the pair of this key, and all others stay.
+fn is_taken(
+    alloc: Global,
+    count: u64,
+    number: u64,
+    call: usize,
+    key: u64,
+) -> Result<bool, TryReserveError> {
+    let mut map = threes(alloc, count)?;
+    Ok(take_beside(&mut map, number, call) == key && is_without(&map, count, key))
+}
+
+// Whether each call takes out its pair, of a map of its own.
 fn are_taken(alloc: Global, count: u64, number: u64) -> Result<bool, TryReserveError> {
-    let [from, after, to, below] = wanted(number, count);
-    let mut first = threes(alloc, count)?;
-    let mut second = threes(alloc, count)?;
-    let mut third = threes(alloc, count)?;
-    let mut fourth = threes(alloc, count)?;
-    let is_right = take_from(&mut first, number) == from
-        && take_after(&mut second, number) == after
-        && take_to(&mut third, number) == to
-        && take_before_it(&mut fourth, number) == below;
-    Ok(
-        is_right
-            && is_without(&first, count, from)
-            && is_without(&second, count, after)
-            && is_without(&third, count, to)
-            && is_without(&fourth, count, below),
-    )
+    let keys = wanted(number, count);
+    for call in 0..4 {
+        if !is_taken(alloc, count, number, call, keys[call])? {
+            return Ok(false);
+        }
+    }
+    Ok(true)
 }
 
 // Whether the map has all of its numbers but one, or all where that is 0.

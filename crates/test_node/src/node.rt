@@ -235,16 +235,25 @@ fn splits_a_leaf_at_each_place(rt: HostRuntime) -> Result<(), Fail> {
     Ok(())
 }
 
-// The same of a full inner node.
-fn is_inner_split(rt: &impl Abort, alloc: Global, place: usize) -> Result<bool, Fail> {
-    let mut node = inner(rt, alloc, &FULL, &BELOW)?;
+// The same of a full inner node, which is its caller's: what is asserted of it has nothing to give up.
+fn leaves_inner_halves(
+    rt: &impl Abort,
+    alloc: Global,
+    node: &mut Node<u64, u64>,
+    place: usize,
+) -> Result<bool, Fail> {
+    assert!(rt; place < PLACES && node.child_count() == PLACES && node.len() == CAPACITY);
     let right = Node::try_inner(alloc)?;
     let key = (place as u64).wrapping_mul(10).wrapping_add(5);
     let child = leaf(rt, alloc, &[key.wrapping_add(1)])?;
-    assert!(rt; place < PLACES && node.child_count() == PLACES && node.len() == CAPACITY);
     let pair = (key, key.wrapping_mul(10));
     let (up, right) = node.split_inner(place, pair, child, right, &mut Count::new());
-    Ok(are_halves(&node, &up, &right, place) && are_children_of_halves(&node, &right, place))
+    Ok(are_halves(node, &up, &right, place) && are_children_of_halves(node, &right, place))
+}
+
+fn is_inner_split(rt: &impl Abort, alloc: Global, place: usize) -> Result<bool, Fail> {
+    let mut node = inner(rt, alloc, &FULL, &BELOW)?;
+    leaves_inner_halves(rt, alloc, &mut node, place)
 }
 
 #[test]
@@ -608,10 +617,9 @@ fn fourteen_pairs<'a>(
     alloc: Global,
     tally: &'a Tally,
 ) -> Result<Node<u64, Token<'a>>, TryReserveError> {
-    let left = tokens(rt, alloc, 0, 6, tally)?;
-    let right = tokens(rt, alloc, 7, 7, tally)?;
     let mut node = Node::try_inner(alloc)?;
-    node.adopt(left);
+    node.adopt(tokens(rt, alloc, 0, 6, tally)?);
+    let right = tokens(rt, alloc, 7, 7, tally)?;
     push_child(rt, &mut node, 6, Token::new(7, tally), right);
     Ok(node)
 }

@@ -1,7 +1,7 @@
 //! Cuts of whole trees at each of their pairs, and the two trees that each leaves.
 ghost use Rattle.std.specs.Prelude.{◌≤◌};
 
-use crate::trees::{LEAST_CHILDREN, is_levelled, is_pair_of, is_place, join, least_inner};
+use crate::trees::{INNER, LEAF, is_levelled, is_pair_of, is_place, least_inner, three_levels};
 use fc_tree_node::node::Node;
 use fc_tree_split::cutting::try_split;
 use std::alloc::Global;
@@ -63,12 +63,6 @@ fn cut_at(
     Ok(())
 }
 
-// A leaf of the fewest keys, and the key behind it.
-const LEAF: u64 = LEAST_CHILDREN as u64;
-
-// The keys of an inner node with the fewest, over such leaves, and the key behind it.
-const INNER: u64 = LEAF * LEAF;
-
 // Where the key stands in a root of one key over two such inner nodes: the child of the root, and the path below it.
 fn steps_to(key: u64) -> ([u8; 3], usize)
     ensures { (2 ≤ result.1) × (result.1 ≤ 3) }
@@ -96,9 +90,7 @@ fn two_levels_at_each_key(rt: HostRuntime) -> Result<(), Fail> {
 #[test]
 fn three_levels_at_each_key(rt: HostRuntime) -> Result<(), Fail> {
     for key in 0..2 * INNER - 1 {
-        let left = least_inner(&rt, rt.alloc(), 0)?;
-        let right = least_inner(&rt, rt.alloc(), INNER)?;
-        let root = join(&rt, rt.alloc(), left, INNER - 1, right)?;
+        let root = three_levels(&rt, rt.alloc(), 0)?;
         let (steps, len) = steps_to(key);
         let len = if key == INNER - 1 { 1 } else { len };
         cut_at(&rt, rt.alloc(), root, 2, &steps[..len], key, 2 * INNER - 1)?;

@@ -1,8 +1,8 @@
 //! Removals at paths that are written out, and the trees that they leave.
 
 use crate::trees::{
-    child_shows, is_levelled, is_pair_of, is_place, join, leaf, least_inner, shows,
-    shows_two_levels,
+    child_shows, is_levelled, is_pair_of, is_place, leaf, over, push_child, shows,
+    shows_two_levels, three_levels,
 };
 use fc_base::Count;
 use fc_tree_node::node::Node;
@@ -35,9 +35,9 @@ fn of_two_leaves(
     path: &[u8],
     key: u64,
 ) -> Result<Node<u64, u64>, Fail> {
-    let left = leaf(rt, alloc, start, middle)?;
+    let mut root = over(alloc, leaf(rt, alloc, start, middle)?)?;
     let right = leaf(rt, alloc, middle.wrapping_add(1), end)?;
-    let root = join(rt, alloc, left, middle, right)?;
+    push_child(rt, &mut root, middle, right);
     Ok(without(rt, root, 1, path, key).ok_or("no root")?)
 }
 
@@ -49,9 +49,7 @@ fn of_sixteen_leaves(
     path: &[u8],
     key: u64,
 ) -> Result<Node<u64, u64>, Fail> {
-    let left = least_inner(rt, alloc, 1)?;
-    let right = least_inner(rt, alloc, 65)?;
-    let root = join(rt, alloc, left, 64, right)?;
+    let root = three_levels(rt, alloc, 1)?;
     Ok(without(rt, root, 2, path, key).ok_or("no root")?)
 }
 

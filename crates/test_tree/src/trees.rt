@@ -85,7 +85,12 @@ fn push(rt: &impl Abort, leaf: &mut Node<u64, u64>, key: u64) {
 }
 
 // Puts the key and the child behind those of an inner node.
-fn push_child(rt: &impl Abort, node: &mut Node<u64, u64>, key: u64, child: Node<u64, u64>) {
+pub(crate) fn push_child(
+    rt: &impl Abort,
+    node: &mut Node<u64, u64>,
+    key: u64,
+    child: Node<u64, u64>,
+) {
     let len = node.len();
     assert!(rt; len < CAPACITY && node.child_count() == len + 1);
     node.insert_inner(len, (key, key), child, &mut Count::new());
@@ -105,22 +110,21 @@ pub(crate) fn leaf(
     Ok(node)
 }
 
-// An inner node of these two subtrees and the key between them.
-pub(crate) fn join(
-    rt: &impl Abort,
-    alloc: Global,
-    left: Node<u64, u64>,
-    key: u64,
-    right: Node<u64, u64>,
-) -> Result<Node<u64, u64>, Fail> {
+// An inner node of this subtree alone: others come behind it, so that nobody holds two at a time.
+pub(crate) fn over(alloc: Global, first: Node<u64, u64>) -> Result<Node<u64, u64>, Fail> {
     let mut node = Node::try_inner(alloc)?;
-    node.adopt(left);
-    push_child(rt, &mut node, key, right);
+    node.adopt(first);
     Ok(node)
 }
 
 // The fewest children of an inner node below the root.
-pub(crate) const LEAST_CHILDREN: usize = MIN_LEN + 1;
+const LEAST_CHILDREN: usize = MIN_LEN + 1;
+
+// A leaf of the fewest keys, and the key behind it.
+pub(crate) const LEAF: u64 = LEAST_CHILDREN as u64;
+
+// The keys of an inner node with the fewest, over such leaves, and the key behind it.
+pub(crate) const INNER: u64 = LEAF * LEAF;
 
 // An inner node of the fewest keys, between leaves of the fewest keys each, from `start` on.
 pub(crate) fn least_inner(
@@ -138,4 +142,21 @@ pub(crate) fn least_inner(
         key = end;
     }
     Ok(node)
+}
+
+// A root of one key over two such inner nodes.
+pub(crate) fn three_levels(
+    rt: &impl Abort,
+    alloc: Global,
+    start: u64,
+) -> Result<Node<u64, u64>, Fail> {
+    let mut root = over(alloc, least_inner(rt, alloc, start)?)?;
+    let key = start.wrapping_add(INNER - 1);
+    push_child(
+        rt,
+        &mut root,
+        key,
+        least_inner(rt, alloc, key.wrapping_add(1))?,
+    );
+    Ok(root)
 }
