@@ -28,21 +28,14 @@ fn put<'a>(
     Ok(())
 }
 
-// The numbers below the count in each inner map, of which one in turn gets its next.
-fn filled<'a>(alloc: Global, tally: &'a Tally) -> Result<Outer<'a>, TryReserveError> {
-    let mut outer = BTreeMap::new(alloc);
+// Puts the numbers below the count in each inner map, of which one in turn gets its next.
+fn fill<'a>(alloc: Global, outer: &mut Outer<'a>, tally: &'a Tally) -> Result<(), TryReserveError> {
     for number in 0..VALUES {
         for place in 0..MAPS {
-            put(
-                alloc,
-                &mut outer,
-                place.wrapping_mul(37) % MAPS,
-                number,
-                tally,
-            )?;
+            put(alloc, outer, place.wrapping_mul(37) % MAPS, number, tally)?;
         }
     }
-    Ok(outer)
+    Ok(())
 }
 
 fn counts_up(inner: &Inner<'_>, first: u64) -> bool {
@@ -113,20 +106,29 @@ fn drops_with_its_map<'a>(
     Ok(is_kept && is_one_gone && tally.living() == before.wrapping_sub(32))
 }
 
-fn is_right(alloc: Global, tally: &Tally) -> Result<bool, TryReserveError> {
-    let mut outer = filled(alloc, tally)?;
+fn is_right<'a>(
+    alloc: Global,
+    outer: &mut Outer<'a>,
+    tally: &'a Tally,
+) -> Result<bool, TryReserveError> {
+    fill(alloc, outer, tally)?;
     Ok(
-        holds(&outer, 0)
+        holds(outer, 0)
             && tally.living() == MAPS * VALUES
-            && is_copied_apart(&mut outer, tally)?
-            && drops_with_its_map(alloc, &mut outer, tally)?,
+            && is_copied_apart(outer, tally)?
+            && drops_with_its_map(alloc, outer, tally)?,
     )
+}
+
+fn nested_maps_are_right(alloc: Global, tally: &Tally) -> Result<bool, TryReserveError> {
+    let mut outer = Outer::new(alloc);
+    is_right(alloc, &mut outer, tally)
 }
 
 #[test]
 fn maps_in_a_map_are_changed_copied_and_dropped_once(rt: HostRuntime) -> Result<(), Fail> {
     let tally = Tally::new();
-    assert!(rt; is_right(rt.alloc(), &tally)?);
+    assert!(rt; nested_maps_are_right(rt.alloc(), &tally)?);
     assert!(rt; tally.made.get() == 2 * MAPS * VALUES && tally.living() == 0);
     Ok(())
 }
