@@ -15,6 +15,11 @@ const MAPS: u64 = 260;
 
 const VALUES: u64 = 20;
 
+fn put_in<'a>(inner: &mut Inner<'a>, number: u64, tally: &'a Tally) -> Result<(), TryReserveError> {
+    inner.try_insert(number, Token::new(number, tally))?;
+    Ok(())
+}
+
 // Puts a value in the inner map of that key, which is made where it is not there.
 fn put<'a>(
     alloc: Global,
@@ -24,8 +29,7 @@ fn put<'a>(
     tally: &'a Tally,
 ) -> Result<(), TryReserveError> {
     let inner = outer.try_entry(at)?.or_try_insert(BTreeMap::new(alloc))?;
-    inner.try_insert(number, Token::new(number, tally))?;
-    Ok(())
+    put_in(inner, number, tally)
 }
 
 // Puts the numbers below the count in each inner map, of which one in turn gets its next.
@@ -61,12 +65,17 @@ fn holds(outer: &Outer<'_>, first: u64) -> bool {
     at == MAPS
 }
 
+fn is_token(taken: Option<Token<'_>>, number: u64) -> bool {
+    match taken {
+        Some(value) => value.number == number,
+        None => false,
+    }
+}
+
 // Takes the number out of the inner map, which is lent.
 fn take_out(outer: &mut Outer<'_>, at: u64, number: u64) -> bool {
     match outer.get_mut(&at) {
-        Some(inner) => inner
-            .remove(&number)
-            .is_some_and(|value| value.number == number),
+        Some(inner) => is_token(inner.remove(&number), number),
         None => false,
     }
 }
