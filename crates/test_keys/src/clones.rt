@@ -14,19 +14,34 @@ impl Clone for Forgotten {
     }
 }
 
-fn numbered(alloc: Global, count: u64) -> Result<BTreeMap<Forgotten, u64>, TryReserveError> {
-    let mut map = BTreeMap::new(alloc);
-    for number in 1..=count {
-        map.try_insert(Forgotten(number), number)?;
-    }
-    Ok(map)
+type Map = BTreeMap<Forgotten, u64>;
+
+fn clone_has_zero(map: &mut Map) -> Result<bool, TryReserveError> {
+    map.try_insert(Forgotten(1), 1)?;
+    let clone = map.clone()?;
+    Ok(matches!(clone.get(&Forgotten(0)), Some(1)))
+}
+
+fn one_is_cloned(alloc: Global) -> Result<bool, TryReserveError> {
+    let mut map = Map::new(alloc);
+    clone_has_zero(&mut map)
+}
+
+fn clone_is_refused(map: &mut Map) -> Result<bool, TryReserveError> {
+    map.try_insert(Forgotten(1), 1)?;
+    map.try_insert(Forgotten(2), 2)?;
+    let is_refused = map.clone().is_err();
+    Ok(is_refused && map.len() == 2)
+}
+
+fn two_are_refused(alloc: Global) -> Result<bool, TryReserveError> {
+    let mut map = Map::new(alloc);
+    clone_is_refused(&mut map)
 }
 
 #[test]
 fn clones_that_do_not_ascend_are_refused(rt: HostRuntime) -> Result<(), Fail> {
-    let one = numbered(rt.alloc(), 1)?;
-    assert!(rt; matches!(one.clone()?.get(&Forgotten(0)), Some(1)));
-    let two = numbered(rt.alloc(), 2)?;
-    assert!(rt; two.clone().is_err() && two.len() == 2);
+    assert!(rt; one_is_cloned(rt.alloc())?);
+    assert!(rt; two_are_refused(rt.alloc())?);
     Ok(())
 }

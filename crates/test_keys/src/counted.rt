@@ -1,7 +1,8 @@
 //! A call on a set that takes a count does as the one without: what is counted is seen by contracts alone.
-use fc_base::Count;
+use fc_base::{Count, TryReserveError};
 use fc_map::map::Reservation;
 use fc_set::set::BTreeSet;
+use std::alloc::Global;
 use std::test::Fail;
 
 // Puts a number in where the reservation serves the set, and answers whether it was served and new.
@@ -12,14 +13,31 @@ fn put(set: &mut BTreeSet<u64>, reservation: &mut Reservation<u64, ()>, number: 
     set.insert_reserved_counted(reservation, number, &mut Count::new())
 }
 
+// Whether the first number takes a place, the same again none, and another one the last, and whether both are then there.
+fn take_places(
+    set: &mut BTreeSet<u64>,
+    reservation: &mut Reservation<u64, ()>,
+) -> (bool, bool, bool, bool) {
+    let first = put(set, reservation, 3) && reservation.places() == 1;
+    let again = !put(set, reservation, 3) && reservation.places() == 1;
+    let second = put(set, reservation, 5) && reservation.places() == 0;
+    let both = set.len() == 2 && set.contains(&3) && set.contains(&5);
+    (first, again, second, both)
+}
+
+fn places_are_taken(alloc: Global) -> Result<(bool, bool, bool, bool), TryReserveError> {
+    let mut set = BTreeSet::new(alloc);
+    let mut reservation = set.try_reserve_nodes(2)?;
+    Ok(take_places(&mut set, &mut reservation))
+}
+
 // A number that is there takes no place.
 #[test]
 fn a_counted_insertion_takes_a_place_of_the_reservation(rt: HostRuntime) -> Result<(), Fail> {
-    let mut set = BTreeSet::new(rt.alloc());
-    let mut reservation = set.try_reserve_nodes(2)?;
-    assert!(rt; put(&mut set, &mut reservation, 3) && reservation.places() == 1);
-    assert!(rt; !put(&mut set, &mut reservation, 3) && reservation.places() == 1);
-    assert!(rt; put(&mut set, &mut reservation, 5) && reservation.places() == 0);
-    assert!(rt; set.len() == 2 && set.contains(&3) && set.contains(&5));
+    let (first, again, second, both) = places_are_taken(rt.alloc())?;
+    assert!(rt; first);
+    assert!(rt; again);
+    assert!(rt; second);
+    assert!(rt; both);
     Ok(())
 }

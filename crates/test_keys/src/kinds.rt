@@ -67,14 +67,19 @@ impl Nth for Tagged {
     }
 }
 
-// The keys below the end, each with its number, put in 37 apart and round.
-fn filled<K: Nth>(alloc: Global) -> Result<BTreeMap<K, u64>, TryReserveError> {
-    let mut map = BTreeMap::new(alloc);
+// Puts in the keys below the end, each with its number, 37 apart and round.
+fn fill<K: Nth>(alloc: Global, map: &mut BTreeMap<K, u64>) -> Result<(), TryReserveError> {
     for place in 0..END {
         let number = place.wrapping_mul(37) % END;
-        map.try_insert(K::nth(alloc, number)?, number)?;
+        let key = K::nth(alloc, number)?;
+        map.try_insert(key, number)?;
     }
-    Ok(map)
+    Ok(())
+}
+
+fn is_key<K: Nth>(alloc: Global, key: &K, number: u64) -> Result<bool, TryReserveError> {
+    let wanted = K::nth(alloc, number)?;
+    Ok(*key == wanted)
 }
 
 fn is_nth<K: Nth>(
@@ -83,9 +88,18 @@ fn is_nth<K: Nth>(
     number: u64,
 ) -> Result<bool, TryReserveError> {
     match found {
-        Some((key, value)) => Ok(*key == K::nth(alloc, number)? && *value == number),
+        Some((key, value)) => Ok(is_key(alloc, key, number)? && *value == number),
         None => Ok(false),
     }
+}
+
+fn is_found<K: Nth>(
+    alloc: Global,
+    map: &BTreeMap<K, u64>,
+    number: u64,
+) -> Result<bool, TryReserveError> {
+    let key = K::nth(alloc, number)?;
+    is_nth(alloc, map.get_key_value(&key), number)
 }
 
 // Whether a walk gives the keys from `first` on below `end`, and each is found.
@@ -97,14 +111,32 @@ fn counts_up<K: Nth>(
 ) -> Result<bool, TryReserveError> {
     let mut walk = map.iter();
     for number in first..end {
-        let key = K::nth(alloc, number)?;
-        if !is_nth(alloc, walk.next(), number)?
-            || !is_nth(alloc, map.get_key_value(&key), number)?
-        {
+        if !is_nth(alloc, walk.next(), number)? || !is_found(alloc, map, number)? {
             return Ok(false);
         }
     }
     Ok(walk.next().is_none() && map.len() as u64 == end.wrapping_sub(first))
+}
+
+fn cut<K: Nth>(
+    alloc: Global,
+    map: &mut BTreeMap<K, u64>,
+    at: u64,
+) -> Result<BTreeMap<K, u64>, TryReserveError> {
+    let key = K::nth(alloc, at)?;
+    map.split_off(&key)
+}
+
+// Whether the rest has the keys that were cut off, and an append makes one map again.
+fn are_parts<K: Nth>(
+    alloc: Global,
+    map: &mut BTreeMap<K, u64>,
+    rest: &mut BTreeMap<K, u64>,
+    at: u64,
+) -> Result<bool, TryReserveError> {
+    let is_cut = counts_up(alloc, map, 0, at)? && counts_up(alloc, rest, at, END)?;
+    map.append(rest)?;
+    Ok(is_cut && rest.is_empty() && counts_up(alloc, map, 0, END)?)
 }
 
 // Whether a split at the key leaves those below it, and an append makes one map again.
@@ -113,24 +145,22 @@ fn splits<K: Nth>(
     map: &mut BTreeMap<K, u64>,
     at: u64,
 ) -> Result<bool, TryReserveError> {
-    let mut rest = map.split_off(&K::nth(alloc, at)?)?;
-    let is_cut = counts_up(alloc, map, 0, at)? && counts_up(alloc, &rest, at, END)?;
-    map.append(&mut rest)?;
-    Ok(is_cut && rest.is_empty() && counts_up(alloc, map, 0, END)?)
+    let mut rest = cut(alloc, map, at)?;
+    are_parts(alloc, map, &mut rest, at)
 }
 
-// Whether the keys between two are walked, from the back.
+// Whether the keys between two, of these numbers, are walked, from the back.
 fn walks_between<K: Nth>(
     alloc: Global,
     map: &BTreeMap<K, u64>,
-    first: u64,
-    end: u64,
+    from: (&K, u64),
+    to: (&K, u64),
 ) -> Result<bool, TryReserveError> {
-    let (from, to) = (K::nth(alloc, first)?, K::nth(alloc, end)?);
-    let (lo, hi) = (Bound::Included(&from), Bound::Excluded(&to));
+    let (lo, hi) = (Bound::Included(from.0), Bound::Excluded(to.0));
     if !is_range(&lo, &hi) {
         return Ok(false);
     }
+    let (first, end) = (from.1, to.1);
     let mut walk = map.range((lo, hi));
     for behind in first..end {
         let number = end.wrapping_sub(1).wrapping_sub(behind.wrapping_sub(first));
@@ -141,55 +171,105 @@ fn walks_between<K: Nth>(
     Ok(walk.next_back().is_none())
 }
 
+fn walks_between_numbers<K: Nth>(
+    alloc: Global,
+    map: &BTreeMap<K, u64>,
+    first: u64,
+    end: u64,
+) -> Result<bool, TryReserveError> {
+    let from = K::nth(alloc, first)?;
+    let to = K::nth(alloc, end)?;
+    walks_between(alloc, map, (&from, first), (&to, end))
+}
+
+fn is_taken<K: Nth>(map: &mut BTreeMap<K, u64>, key: &K, number: u64) -> bool {
+    match map.remove(key) {
+        Some(value) => value == number && !map.contains_key(key),
+        None => false,
+    }
+}
+
 // Whether each key is taken out, 77 apart and round, and none is then there.
 fn takes_each<K: Nth>(alloc: Global, map: &mut BTreeMap<K, u64>) -> Result<bool, TryReserveError> {
     for place in 0..END {
         let number = place.wrapping_mul(77) % END;
         let key = K::nth(alloc, number)?;
-        if map.remove(&key) != Some(number) || map.contains_key(&key) {
+        if !is_taken(map, &key, number) {
             return Ok(false);
         }
     }
     Ok(map.is_empty())
 }
 
-fn map_is_right<K: Nth>(alloc: Global) -> Result<bool, TryReserveError> {
-    let mut map: BTreeMap<K, u64> = filled(alloc)?;
+fn is_right<K: Nth>(alloc: Global, map: &mut BTreeMap<K, u64>) -> Result<bool, TryReserveError> {
+    fill(alloc, map)?;
     Ok(
-        counts_up(alloc, &map, 0, END)?
-            && splits(alloc, &mut map, 100)?
-            && walks_between(alloc, &map, 15, 273)?
-            && takes_each(alloc, &mut map)?,
+        counts_up(alloc, map, 0, END)?
+            && splits(alloc, map, 100)?
+            && walks_between_numbers(alloc, map, 15, 273)?
+            && takes_each(alloc, map)?,
     )
 }
 
-// The keys whose numbers the divisor divides.
-fn multiples<K: Nth>(alloc: Global, divisor: u64) -> Result<BTreeSet<K>, TryReserveError> {
-    let mut set = BTreeSet::new(alloc);
-    for number in 0..END {
-        if number.checked_rem(divisor).unwrap_or(1) == 0 {
-            set.try_insert(K::nth(alloc, number)?)?;
-        }
-    }
-    Ok(set)
+fn map_is_right<K: Nth>(alloc: Global) -> Result<bool, TryReserveError> {
+    let mut map: BTreeMap<K, u64> = BTreeMap::new(alloc);
+    is_right(alloc, &mut map)
 }
 
-// Whether the keys of even numbers and of multiples of three have those of multiples of six in common, 50 keys, and 100 + 150 - 50 in either.
-fn sets_are_right<K: Nth>(alloc: Global) -> Result<bool, TryReserveError> {
-    let even: BTreeSet<K> = multiples(alloc, 2)?;
-    let threes: BTreeSet<K> = multiples(alloc, 3)?;
+// Puts in the keys below the end whose numbers the divisor divides.
+fn put_multiples<K: Nth>(
+    alloc: Global,
+    set: &mut BTreeSet<K>,
+    divisor: u64,
+) -> Result<(), TryReserveError> {
+    for number in 0..END {
+        if number.checked_rem(divisor).unwrap_or(1) == 0 {
+            let key = K::nth(alloc, number)?;
+            set.try_insert(key)?;
+        }
+    }
+    Ok(())
+}
+
+fn has_multiples_of_six<K: Nth>(
+    alloc: Global,
+    even: &BTreeSet<K>,
+    threes: &BTreeSet<K>,
+) -> Result<bool, TryReserveError> {
     let mut common = 0u64;
-    for item in even.intersection(&threes) {
-        if *item != K::nth(alloc, common.wrapping_mul(6))? {
+    for item in even.intersection(threes) {
+        if !is_key(alloc, item, common.wrapping_mul(6))? {
             return Ok(false);
         }
         common = common.wrapping_add(1);
     }
+    Ok(common == 50)
+}
+
+fn has_either<K: Nth>(even: &BTreeSet<K>, threes: &BTreeSet<K>) -> bool {
     let mut either = 0u64;
-    for _item in even.union(&threes) {
+    for _item in even.union(threes) {
         either = either.wrapping_add(1);
     }
-    Ok(common == 50 && either == 200 && !even.is_subset(&threes))
+    either == 200
+}
+
+// Whether the keys of even numbers and of multiples of three have those of multiples of six in common, 50 keys, and 100 + 150 - 50 in either.
+fn are_right<K: Nth>(
+    alloc: Global,
+    even: &mut BTreeSet<K>,
+    threes: &mut BTreeSet<K>,
+) -> Result<bool, TryReserveError> {
+    put_multiples(alloc, even, 2)?;
+    put_multiples(alloc, threes, 3)?;
+    let has_six = has_multiples_of_six(alloc, even, threes)?;
+    Ok(has_six && has_either(even, threes) && !even.is_subset(threes))
+}
+
+fn sets_are_right<K: Nth>(alloc: Global) -> Result<bool, TryReserveError> {
+    let mut even: BTreeSet<K> = BTreeSet::new(alloc);
+    let mut threes: BTreeSet<K> = BTreeSet::new(alloc);
+    are_right(alloc, &mut even, &mut threes)
 }
 
 #[test]
@@ -212,20 +292,30 @@ fn items_of_each_kind_are_joined(rt: HostRuntime) -> Result<(), Fail> {
     Ok(())
 }
 
-// Of the numbers 1, 2 and 3, put in in this order, a walk by the reversed order gives the last first.
-fn walks_down(alloc: Global) -> Result<bool, TryReserveError> {
-    let mut map = BTreeMap::new(alloc);
-    for number in 1..4u64 {
-        map.try_insert(Reverse(number), number)?;
-    }
+type Down = BTreeMap<Reverse<u64>, u64>;
+
+fn goes_down(map: &Down) -> bool {
     let mut wanted = 3u64;
-    for (key, value) in &map {
+    for (key, value) in map {
         if key.0 != wanted || *value != wanted {
-            return Ok(false);
+            return false;
         }
         wanted = wanted.wrapping_sub(1);
     }
-    Ok(wanted == 0)
+    wanted == 0
+}
+
+// Of the numbers 1, 2 and 3, put in in this order, a walk by the reversed order gives the last first.
+fn is_reversed(map: &mut Down) -> Result<bool, TryReserveError> {
+    map.try_insert(Reverse(1), 1)?;
+    map.try_insert(Reverse(2), 2)?;
+    map.try_insert(Reverse(3), 3)?;
+    Ok(goes_down(map))
+}
+
+fn walks_down(alloc: Global) -> Result<bool, TryReserveError> {
+    let mut map = Down::new(alloc);
+    is_reversed(&mut map)
 }
 
 #[test]

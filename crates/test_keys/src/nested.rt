@@ -15,6 +15,11 @@ const MAPS: u64 = 260;
 
 const VALUES: u64 = 20;
 
+fn put_in<'a>(inner: &mut Inner<'a>, number: u64, tally: &'a Tally) -> Result<(), TryReserveError> {
+    inner.try_insert(number, Token::new(number, tally))?;
+    Ok(())
+}
+
 // Puts a value in the inner map of that key, which is made where it is not there.
 fn put<'a>(
     alloc: Global,
@@ -24,25 +29,17 @@ fn put<'a>(
     tally: &'a Tally,
 ) -> Result<(), TryReserveError> {
     let inner = outer.try_entry(at)?.or_try_insert(BTreeMap::new(alloc))?;
-    inner.try_insert(number, Token::new(number, tally))?;
-    Ok(())
+    put_in(inner, number, tally)
 }
 
-// The numbers below the count in each inner map, of which one in turn gets its next.
-fn filled<'a>(alloc: Global, tally: &'a Tally) -> Result<Outer<'a>, TryReserveError> {
-    let mut outer = BTreeMap::new(alloc);
+// Puts the numbers below the count in each inner map, of which one in turn gets its next.
+fn fill<'a>(alloc: Global, outer: &mut Outer<'a>, tally: &'a Tally) -> Result<(), TryReserveError> {
     for number in 0..VALUES {
         for place in 0..MAPS {
-            put(
-                alloc,
-                &mut outer,
-                place.wrapping_mul(37) % MAPS,
-                number,
-                tally,
-            )?;
+            put(alloc, outer, place.wrapping_mul(37) % MAPS, number, tally)?;
         }
     }
-    Ok(outer)
+    Ok(())
 }
 
 fn counts_up(inner: &Inner<'_>, first: u64) -> bool {
@@ -68,12 +65,17 @@ fn holds(outer: &Outer<'_>, first: u64) -> bool {
     at == MAPS
 }
 
+fn is_token(taken: Option<Token<'_>>, number: u64) -> bool {
+    match taken {
+        Some(value) => value.number == number,
+        None => false,
+    }
+}
+
 // Takes the number out of the inner map, which is lent.
 fn take_out(outer: &mut Outer<'_>, at: u64, number: u64) -> bool {
     match outer.get_mut(&at) {
-        Some(inner) => inner
-            .remove(&number)
-            .is_some_and(|value| value.number == number),
+        Some(inner) => is_token(inner.remove(&number), number),
         None => false,
     }
 }
@@ -113,20 +115,29 @@ fn drops_with_its_map<'a>(
     Ok(is_kept && is_one_gone && tally.living() == before.wrapping_sub(32))
 }
 
-fn is_right(alloc: Global, tally: &Tally) -> Result<bool, TryReserveError> {
-    let mut outer = filled(alloc, tally)?;
+fn is_right<'a>(
+    alloc: Global,
+    outer: &mut Outer<'a>,
+    tally: &'a Tally,
+) -> Result<bool, TryReserveError> {
+    fill(alloc, outer, tally)?;
     Ok(
-        holds(&outer, 0)
+        holds(outer, 0)
             && tally.living() == MAPS * VALUES
-            && is_copied_apart(&mut outer, tally)?
-            && drops_with_its_map(alloc, &mut outer, tally)?,
+            && is_copied_apart(outer, tally)?
+            && drops_with_its_map(alloc, outer, tally)?,
     )
+}
+
+fn nested_maps_are_right(alloc: Global, tally: &Tally) -> Result<bool, TryReserveError> {
+    let mut outer = Outer::new(alloc);
+    is_right(alloc, &mut outer, tally)
 }
 
 #[test]
 fn maps_in_a_map_are_changed_copied_and_dropped_once(rt: HostRuntime) -> Result<(), Fail> {
     let tally = Tally::new();
-    assert!(rt; is_right(rt.alloc(), &tally)?);
+    assert!(rt; nested_maps_are_right(rt.alloc(), &tally)?);
     assert!(rt; tally.made.get() == 2 * MAPS * VALUES && tally.living() == 0);
     Ok(())
 }

@@ -7,15 +7,19 @@ use std::test::Fail;
 
 type Words = BTreeMap<String, u64>;
 
-fn words(alloc: Global) -> Result<Words, TryReserveError> {
-    let mut words = BTreeMap::new(alloc);
-    words.try_insert(String::from_str(alloc, "banana")?, 1)?;
-    words.try_insert(String::from_str(alloc, "apply")?, 2)?;
-    words.try_insert(String::from_str(alloc, "al")?, 3)?;
-    words.try_insert(String::from_str(alloc, "application")?, 4)?;
-    words.try_insert(String::from_str(alloc, "apricot")?, 5)?;
-    words.try_insert(String::from_str(alloc, "apple")?, 6)?;
-    Ok(words)
+fn put(alloc: Global, words: &mut Words, word: &str, number: u64) -> Result<(), TryReserveError> {
+    let key = String::from_str(alloc, word)?;
+    words.try_insert(key, number)?;
+    Ok(())
+}
+
+fn put_words(alloc: Global, words: &mut Words) -> Result<(), TryReserveError> {
+    put(alloc, words, "banana", 1)?;
+    put(alloc, words, "apply", 2)?;
+    put(alloc, words, "al", 3)?;
+    put(alloc, words, "application", 4)?;
+    put(alloc, words, "apricot", 5)?;
+    put(alloc, words, "apple", 6)
 }
 
 fn is_number(found: Option<(&String, &u64)>, number: u64) -> bool {
@@ -40,21 +44,41 @@ fn gives_none_where_the_end_is_ahead(words: &Words) -> bool {
     walk.next().is_none() && walk.next_back().is_none()
 }
 
+fn has(words: &Words, word: &str, number: u64) -> bool {
+    match words.get(word) {
+        Some(value) => *value == number,
+        None => false,
+    }
+}
+
 fn writes_those_with_the_prefix(words: &mut Words) -> bool {
     words
         .range_mut((Bound::Included("app"), Bound::Excluded("apq")))
         .for_each(|_word, value| *value = value.wrapping_add(10));
-    words.get("apple") == Some(&16)
-        && words.get("apply") == Some(&12)
-        && words.get("al") == Some(&3)
-        && words.get("apricot") == Some(&5)
+    has(words, "apple", 16)
+        && has(words, "apply", 12)
+        && has(words, "al", 3)
+        && has(words, "apricot", 5)
+}
+
+// Whether each of the three is right.
+fn walk_all(alloc: Global, words: &mut Words) -> Result<(bool, bool, bool), TryReserveError> {
+    put_words(alloc, words)?;
+    let gives_those = gives_those_with_the_prefix(words);
+    let gives_none = gives_none_where_the_end_is_ahead(words);
+    Ok((gives_those, gives_none, writes_those_with_the_prefix(words)))
+}
+
+fn words_are_walked(alloc: Global) -> Result<(bool, bool, bool), TryReserveError> {
+    let mut words = Words::new(alloc);
+    walk_all(alloc, &mut words)
 }
 
 #[test]
 fn a_prefix_is_walked_by_two_texts(rt: HostRuntime) -> Result<(), Fail> {
-    let mut words = words(rt.alloc())?;
-    assert!(rt; gives_those_with_the_prefix(&words));
-    assert!(rt; gives_none_where_the_end_is_ahead(&words));
-    assert!(rt; writes_those_with_the_prefix(&mut words));
+    let (gives_those, gives_none, writes_those) = words_are_walked(rt.alloc())?;
+    assert!(rt; gives_those);
+    assert!(rt; gives_none);
+    assert!(rt; writes_those);
     Ok(())
 }

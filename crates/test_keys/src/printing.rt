@@ -1,39 +1,63 @@
 //! The texts of lazy set operations by `{:?}`: the items still to come.
-use fc_base::TryReserveError;
+use crate::few::{is_number, put_items};
 use fc_set::set::BTreeSet;
 use std::alloc::Global;
+use std::fmt::Debug;
 use std::test::Fail;
 
-fn numbers(alloc: Global, first: u64, end: u64) -> Result<BTreeSet<u64>, TryReserveError> {
-    let mut set = BTreeSet::new(alloc);
-    for number in first..end {
-        set.try_insert(number)?;
-    }
-    Ok(set)
+type Numbers = BTreeSet<u64>;
+
+fn prints<D: Debug>(alloc: Global, shown: &D, wanted: &str) -> Result<bool, Fail> {
+    let text = format!(in alloc; "{shown:?}")?;
+    Ok(text.as_str() == wanted)
+}
+
+// Whether the union and the intersection are printed, and whether the two differences are.
+fn are_printed(
+    alloc: Global,
+    ours: &mut Numbers,
+    theirs: &mut Numbers,
+) -> Result<(bool, bool), Fail> {
+    put_items(ours, &[1, 2, 3, 4])?;
+    put_items(theirs, &[3, 4, 5, 6])?;
+    let either = prints(alloc, &ours.union(theirs), "[1, 2, 3, 4, 5, 6]")?;
+    let both = prints(alloc, &ours.intersection(theirs), "[3, 4]")?;
+    let one = prints(alloc, &ours.symmetric_difference(theirs), "[1, 2, 5, 6]")?;
+    let first = prints(alloc, &ours.difference(theirs), "[1, 2]")?;
+    Ok((either && both, one && first))
+}
+
+fn operations_print(alloc: Global) -> Result<(bool, bool), Fail> {
+    let mut ours = Numbers::new(alloc);
+    let mut theirs = Numbers::new(alloc);
+    are_printed(alloc, &mut ours, &mut theirs)
 }
 
 #[test]
 fn operations_on_two_sets_print_the_items_still_to_come(rt: HostRuntime) -> Result<(), Fail> {
-    let ours = numbers(rt.alloc(), 1, 5)?;
-    let theirs = numbers(rt.alloc(), 3, 7)?;
-    let either = format!(in rt.alloc(); "{:?}", ours.union(&theirs))?;
-    let both = format!(in rt.alloc(); "{:?}", ours.intersection(&theirs))?;
-    let one = format!(in rt.alloc(); "{:?}", ours.symmetric_difference(&theirs))?;
-    let first = format!(in rt.alloc(); "{:?}", ours.difference(&theirs))?;
-    assert!(rt; either.as_str() == "[1, 2, 3, 4, 5, 6]" && both.as_str() == "[3, 4]");
-    assert!(rt; one.as_str() == "[1, 2, 5, 6]" && first.as_str() == "[1, 2]");
+    let (all, apart) = operations_print(rt.alloc())?;
+    assert!(rt; all);
+    assert!(rt; apart);
     Ok(())
 }
 
 // The walk stays where it is.
+fn goes_on(alloc: Global, ours: &mut Numbers, theirs: &Numbers) -> Result<bool, Fail> {
+    put_items(ours, &[1, 2, 3])?;
+    let mut walk = ours.union(theirs);
+    walk.next();
+    let is_printed = prints(alloc, &walk, "[2, 3]")?;
+    Ok(is_printed && is_number(walk.next(), 2))
+}
+
+fn printed_operation_goes_on(alloc: Global) -> Result<bool, Fail> {
+    let mut ours = Numbers::new(alloc);
+    let theirs = Numbers::new(alloc);
+    goes_on(alloc, &mut ours, &theirs)
+}
+
 #[test]
 fn an_operation_that_was_printed_goes_on(rt: HostRuntime) -> Result<(), Fail> {
-    let ours = numbers(rt.alloc(), 1, 4)?;
-    let theirs = numbers(rt.alloc(), 1, 1)?;
-    let mut walk = ours.union(&theirs);
-    walk.next();
-    let text = format!(in rt.alloc(); "{walk:?}")?;
-    let next = walk.next().copied();
-    assert!(rt; text.as_str() == "[2, 3]" && next == Some(2));
+    assert!(rt; printed_operation_goes_on(rt.alloc())?);
     Ok(())
 }

@@ -17,13 +17,10 @@ fn has_even_ones(set: &BTreeSet<u64>, end: u64) -> bool {
 }
 
 // Of the numbers below 200 the even ones stay, and of these the fifty below 100 are taken out, which are 2450 together.
-fn are_right(alloc: Global) -> Result<bool, TryReserveError> {
-    let mut set = BTreeSet::new(alloc);
-    for number in 0..200u64 {
-        set.try_insert(number)?;
-    }
+fn are_right(set: &mut BTreeSet<u64>) -> Result<bool, TryReserveError> {
+    set.try_extend(0..200u64)?;
     set.retain(|number| number & 1 == 0);
-    let is_left = has_even_ones(&set, 200) && set.len() == 100;
+    let is_left = has_even_ones(set, 200) && set.len() == 100;
     let mut taken = 0u64;
     set.extract_if(
         |number| *number < 100,
@@ -32,8 +29,13 @@ fn are_right(alloc: Global) -> Result<bool, TryReserveError> {
     Ok(is_left && taken == 2450 && set.len() == 50 && set.contains(&100) && !set.contains(&98))
 }
 
+fn are_right_in_a_set(alloc: Global) -> Result<bool, TryReserveError> {
+    let mut set = BTreeSet::new(alloc);
+    are_right(&mut set)
+}
+
 #[test]
 fn even_ones_stay_and_small_ones_are_taken_out(rt: HostRuntime) -> Result<(), Fail> {
-    assert!(rt; are_right(rt.alloc())?);
+    assert!(rt; are_right_in_a_set(rt.alloc())?);
     Ok(())
 }

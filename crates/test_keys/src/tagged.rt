@@ -13,13 +13,18 @@ type Map = BTreeMap<Tagged, u64>;
 // So many pairs stand on three levels, since two hold at most 255.
 const END: u64 = 300;
 
-// The numbers below the end, each with this letter and itself, put in 37 apart and round.
-fn lettered(alloc: Global, letter: char, end: u64) -> Result<Map, TryReserveError> {
-    let mut map = BTreeMap::new(alloc);
+// Puts in the numbers below the end, each with this letter and itself, 37 apart and round.
+fn put_letters(map: &mut Map, letter: char, end: u64) -> Result<(), TryReserveError> {
     for place in 0..end {
         let number = place.wrapping_mul(37) % end;
         map.try_insert(Tagged::new(number, letter), number)?;
     }
+    Ok(())
+}
+
+fn lettered(alloc: Global, letter: char, end: u64) -> Result<Map, TryReserveError> {
+    let mut map = Map::new(alloc);
+    put_letters(&mut map, letter, end)?;
     Ok(map)
 }
 
@@ -107,10 +112,14 @@ fn each_key_stays(map: &mut Map) -> Result<bool, TryReserveError> {
     Ok(counts_up(map, 0, END, 'a'))
 }
 
+fn keys_stay(alloc: Global) -> Result<bool, TryReserveError> {
+    let mut map = lettered(alloc, 'a', END)?;
+    each_key_stays(&mut map)
+}
+
 #[test]
 fn an_insertion_keeps_the_key_that_is_there(rt: HostRuntime) -> Result<(), Fail> {
-    let mut map = lettered(rt.alloc(), 'a', END)?;
-    assert!(rt; each_key_stays(&mut map)?);
+    assert!(rt; keys_stay(rt.alloc())?);
     Ok(())
 }
 
@@ -182,10 +191,14 @@ fn each_key_is_given(map: &mut Map) -> Result<bool, TryReserveError> {
     Ok(counts_up(map, 0, END, 'd'))
 }
 
+fn keys_are_given(alloc: Global) -> Result<bool, TryReserveError> {
+    let mut map = lettered(alloc, 'a', END)?;
+    each_key_is_given(&mut map)
+}
+
 #[test]
 fn an_entry_gives_the_key_that_is_there_or_its_own(rt: HostRuntime) -> Result<(), Fail> {
-    let mut map = lettered(rt.alloc(), 'a', END)?;
-    assert!(rt; each_key_is_given(&mut map)?);
+    assert!(rt; keys_are_given(rt.alloc())?);
     Ok(())
 }
 
@@ -204,71 +217,102 @@ fn pops_each(map: &mut Map) -> bool {
     map.is_empty()
 }
 
+fn keys_are_popped(alloc: Global) -> Result<bool, TryReserveError> {
+    let mut map = lettered(alloc, 'a', END)?;
+    Ok(pops_each(&mut map))
+}
+
 #[test]
 fn the_ends_give_the_keys_of_the_map(rt: HostRuntime) -> Result<(), Fail> {
-    let mut map = lettered(rt.alloc(), 'a', END)?;
-    assert!(rt; pops_each(&mut map));
+    assert!(rt; keys_are_popped(rt.alloc())?);
     Ok(())
 }
 
 // Whether the numbers below `middle` have the one letter, and those from there on below the end the other.
 fn has_two_parts(
-    mut map: Map,
+    map: &mut Map,
     middle: u64,
     first: char,
     second: char,
 ) -> Result<bool, TryReserveError> {
     let rest = map.split_off(&Tagged::new(middle, '?'))?;
-    Ok(counts_up(&map, 0, middle, first) && counts_up(&rest, middle, END, second))
+    Ok(counts_up(map, 0, middle, first) && counts_up(&rest, middle, END, second))
 }
 
 // Joined with the first of them under another letter, the map has these under that letter, and the others as before.
-fn append_takes_theirs(alloc: Global) -> Result<bool, TryReserveError> {
-    let mut map = lettered(alloc, 'a', END)?;
-    let mut other = lettered(alloc, 'b', 100)?;
-    map.append(&mut other)?;
+fn is_joined(map: &mut Map, other: &mut Map) -> Result<bool, TryReserveError> {
+    put_letters(map, 'a', END)?;
+    put_letters(other, 'b', 100)?;
+    map.append(other)?;
     Ok(other.is_empty() && has_two_parts(map, 100, 'b', 'a')?)
 }
 
+fn append_takes_theirs(alloc: Global) -> Result<bool, TryReserveError> {
+    let mut map = Map::new(alloc);
+    let mut other = Map::new(alloc);
+    is_joined(&mut map, &mut other)
+}
+
+fn are_parts(map: &mut Map, rest: &mut Map, at: u64) -> Result<bool, TryReserveError> {
+    let is_cut = counts_up(map, 0, at, 'a') && counts_up(rest, at, END, 'a');
+    map.append(rest)?;
+    Ok(is_cut)
+}
+
+fn is_cut(map: &mut Map, at: u64) -> Result<bool, TryReserveError> {
+    let mut rest = map.split_off(&Tagged::new(at, 'b'))?;
+    are_parts(map, &mut rest, at)
+}
+
 // A split at each seventh number leaves each key in its part.
-fn split_keeps_them(map: &mut Map) -> Result<bool, TryReserveError> {
+fn is_cut_at_each(map: &mut Map) -> Result<bool, TryReserveError> {
     for part in 0..43 {
-        let at = part * 7;
-        let mut rest = map.split_off(&Tagged::new(at, 'b'))?;
-        if !counts_up(map, 0, at, 'a') || !counts_up(&rest, at, END, 'a') {
+        if !is_cut(map, part * 7)? {
             return Ok(false);
         }
-        map.append(&mut rest)?;
     }
     Ok(counts_up(map, 0, END, 'a'))
 }
 
+fn split_keeps_them(alloc: Global) -> Result<bool, TryReserveError> {
+    let mut map = lettered(alloc, 'a', END)?;
+    is_cut_at_each(&mut map)
+}
+
+fn copy_has_two_parts(map: &Map) -> Result<bool, TryReserveError> {
+    let mut copy = map.try_clone()?;
+    has_two_parts(&mut copy, 200, 'a', 'b')
+}
+
 // An extension keeps the keys that are there, and puts the others in; a copy has them all.
+fn is_extended(alloc: Global, map: &mut Map) -> Result<bool, TryReserveError> {
+    let more = lettered(alloc, 'b', END)?;
+    map.try_extend(more)?;
+    Ok(copy_has_two_parts(map)? && has_two_parts(map, 200, 'a', 'b')?)
+}
+
 fn extension_keeps_them(alloc: Global) -> Result<bool, TryReserveError> {
     let mut map = lettered(alloc, 'a', 200)?;
-    map.try_extend(lettered(alloc, 'b', END)?)?;
-    let copy = map.try_clone()?;
-    Ok(has_two_parts(map, 200, 'a', 'b')? && has_two_parts(copy, 200, 'a', 'b')?)
+    is_extended(alloc, &mut map)
+}
+
+// The keys of letter a come first, and then those of letter b.
+fn pair_at(place: u64) -> (Tagged, u64) {
+    let number = place % END;
+    let letter = if place < END { 'a' } else { 'b' };
+    (Tagged::new(number, letter), number)
 }
 
 // Of equal keys a map that is made of pairs has the first.
 fn made_map_has_the_first(alloc: Global) -> Result<bool, TryReserveError> {
-    let mut pairs = Vec::new(alloc);
-    for place in 0..END.wrapping_mul(2) {
-        let number = place % END;
-        pairs.push((
-            Tagged::new(number, if place < END { 'a' } else { 'b' }),
-            number,
-        ))?;
-    }
+    let pairs = (0..END.wrapping_mul(2)).map(pair_at);
     let map: Map = BTreeMap::try_from_iterator(alloc, pairs)?;
     Ok(counts_up(&map, 0, END, 'a'))
 }
 
 #[test]
 fn calls_on_whole_maps_keep_or_take_keys(rt: HostRuntime) -> Result<(), Fail> {
-    let mut map = lettered(rt.alloc(), 'a', END)?;
-    assert!(rt; append_takes_theirs(rt.alloc())? && split_keeps_them(&mut map)?);
+    assert!(rt; append_takes_theirs(rt.alloc())? && split_keeps_them(rt.alloc())?);
     assert!(rt; extension_keeps_them(rt.alloc())? && made_map_has_the_first(rt.alloc())?);
     Ok(())
 }
@@ -293,6 +337,8 @@ fn both_keep_theirs(a: &mut Map, b: &mut Map, number: u64) -> Result<bool, TryRe
 }
 
 fn each_of_both_stays(a: &mut Map, b: &mut Map) -> Result<bool, TryReserveError> {
+    put_letters(a, 'a', END)?;
+    put_letters(b, 'b', END)?;
     for number in 0..END {
         if !both_keep_theirs(a, b, number)? {
             return Ok(false);
@@ -301,11 +347,15 @@ fn each_of_both_stays(a: &mut Map, b: &mut Map) -> Result<bool, TryReserveError>
     Ok(counts_up(a, 0, END, 'a') && b.len() as u64 == 2 * END)
 }
 
+fn keys_of_both_stay(alloc: Global) -> Result<bool, TryReserveError> {
+    let mut a = Map::new(alloc);
+    let mut b = Map::new(alloc);
+    each_of_both_stays(&mut a, &mut b)
+}
+
 #[test]
 fn two_insertions_keep_the_keys_that_are_there(rt: HostRuntime) -> Result<(), Fail> {
-    let mut a = lettered(rt.alloc(), 'a', END)?;
-    let mut b = lettered(rt.alloc(), 'b', END)?;
-    assert!(rt; each_of_both_stays(&mut a, &mut b)?);
+    assert!(rt; keys_of_both_stay(rt.alloc())?);
     Ok(())
 }
 
@@ -317,20 +367,29 @@ fn put(map: &mut Map, reservation: &mut Reservation<Tagged, u64>, number: u64) {
     map.insert_reserved(reservation, Tagged::new(number, 'b'), number);
 }
 
-// With room for a hundred insertions, equal keys stay and use none of it, and new ones go in.
-fn a_reservation_keeps_them(map: &mut Map) -> Result<bool, TryReserveError> {
+fn put_with_room(map: &mut Map) -> Result<(), TryReserveError> {
     let mut reservation = map.try_reserve_nodes(100)?;
     for number in 0..END.wrapping_add(100) {
         put(map, &mut reservation, number);
     }
+    Ok(())
+}
+
+// With room for a hundred insertions, equal keys stay and use none of it, and new ones go in.
+fn is_put_with_room(map: &mut Map) -> Result<bool, TryReserveError> {
+    put_with_room(map)?;
     let rest = map.split_off(&Tagged::new(END, 'c'))?;
     Ok(counts_up(map, 0, END, 'a') && counts_up(&rest, END, END.wrapping_add(100), 'b'))
 }
 
+fn a_reservation_keeps_them(alloc: Global) -> Result<bool, TryReserveError> {
+    let mut map = lettered(alloc, 'a', END)?;
+    is_put_with_room(&mut map)
+}
+
 #[test]
 fn a_reservation_leaves_the_keys_that_are_there(rt: HostRuntime) -> Result<(), Fail> {
-    let mut map = lettered(rt.alloc(), 'a', END)?;
-    assert!(rt; a_reservation_keeps_them(&mut map)?);
+    assert!(rt; a_reservation_keeps_them(rt.alloc())?);
     Ok(())
 }
 
@@ -350,6 +409,15 @@ fn range_gives_them(map: &Map, from: u64) -> bool {
     walk.next().is_none()
 }
 
+fn ranges_give_them(map: &Map) -> bool {
+    for from in [0, 1, 8, 149, 298] {
+        if !range_gives_them(map, from) {
+            return false;
+        }
+    }
+    true
+}
+
 // A writing walk shows each key of the map before it lends its value.
 fn writing_walk_shows_them(map: &mut Map) -> bool {
     let mut walk = map.iter_mut();
@@ -362,7 +430,7 @@ fn writing_walk_shows_them(map: &mut Map) -> bool {
     walk.is_done()
 }
 
-fn keys_and_pairs_are_given(map: Map) -> bool {
+fn keys_are_walked(map: &Map) -> bool {
     let mut number = 0u64;
     for there in map.keys() {
         if there.letter != 'a' || there.number != number {
@@ -370,21 +438,32 @@ fn keys_and_pairs_are_given(map: Map) -> bool {
         }
         number = number.wrapping_add(1);
     }
-    let mut walk = map.into_iter();
-    for first in 0..END {
-        if !is_owned_pair(walk.next(), first, 'a') {
+    number == END
+}
+
+fn owned_walk_gives_them(map: Map) -> bool {
+    let mut number = 0u64;
+    for (key, value) in map {
+        if !is_owned_pair(Some((key, value)), number, 'a') {
             return false;
         }
+        number = number.wrapping_add(1);
     }
     number == END
 }
 
+// Whether ranges give the keys, and whether the other walks do.
+fn walks_give_them(alloc: Global) -> Result<(bool, bool), TryReserveError> {
+    let mut map = lettered(alloc, 'a', END)?;
+    let by_ranges = ranges_give_them(&map);
+    let by_lent_walks = writing_walk_shows_them(&mut map) && keys_are_walked(&map);
+    Ok((by_ranges, owned_walk_gives_them(map) && by_lent_walks))
+}
+
 #[test]
 fn walks_give_the_keys_of_the_map(rt: HostRuntime) -> Result<(), Fail> {
-    let mut map = lettered(rt.alloc(), 'a', END)?;
-    for from in [0, 1, 8, 149, 298] {
-        assert!(rt; range_gives_them(&map, from));
-    }
-    assert!(rt; writing_walk_shows_them(&mut map) && keys_and_pairs_are_given(map));
+    let (by_ranges, by_walks) = walks_give_them(rt.alloc())?;
+    assert!(rt; by_ranges);
+    assert!(rt; by_walks);
     Ok(())
 }

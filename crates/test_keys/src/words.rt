@@ -1,4 +1,5 @@
 //! Keys that are texts of the program, `&str`, looked up by a bare literal: each call of a map that looks a key up, and each of an entry.
+use crate::few::put_pairs;
 use fc_base::TryReserveError;
 use fc_map::map::{BTreeMap, Entry};
 use std::alloc::Global;
@@ -20,13 +21,13 @@ fn is_answer(answer: Option<u64>, wanted: u64) -> bool {
     }
 }
 
-// Words that were put in in another order, each with its place in the alphabet.
+// Words that are put in in another order, each with its place in the alphabet.
 fn words(alloc: Global) -> Result<Words, TryReserveError> {
-    let mut map = BTreeMap::new(alloc);
-    map.try_insert("dill", 4)?;
-    map.try_insert("anise", 1)?;
-    map.try_insert("cress", 3)?;
-    map.try_insert("basil", 2)?;
+    let mut map = Words::new(alloc);
+    put_pairs(
+        &mut map,
+        &[("dill", 4), ("anise", 1), ("cress", 3), ("basil", 2)],
+    )?;
     Ok(map)
 }
 
@@ -123,18 +124,35 @@ fn is_put_by_entry(map: &mut Words) -> Result<bool, TryReserveError> {
     Ok(is_back && is_put && is_value(map.get("anise"), 37))
 }
 
+// Whether words are found, counted by entries, and taken out and put in by them.
+fn are_looked_up(alloc: Global, map: &mut Words) -> Result<(bool, bool, bool), TryReserveError> {
+    let is_found = finds(alloc, map)? && is_at_its_index(alloc)?;
+    let is_counted = are_counted(map)?;
+    let is_entered = is_taken_by_entry(map)? && is_put_by_entry(map)?;
+    Ok((is_found, is_counted, is_entered))
+}
+
+fn words_are_looked_up(alloc: Global) -> Result<(bool, bool, bool), TryReserveError> {
+    let mut map = words(alloc)?;
+    are_looked_up(alloc, &mut map)
+}
+
 #[test]
 fn words_are_looked_up_by_a_literal(rt: HostRuntime) -> Result<(), Fail> {
-    let mut map = words(rt.alloc())?;
-    assert!(rt; finds(rt.alloc(), &map)? && is_at_its_index(rt.alloc())?);
-    assert!(rt; are_counted(&mut map)?);
-    assert!(rt; is_taken_by_entry(&mut map)? && is_put_by_entry(&mut map)?);
+    let (is_found, is_counted, is_entered) = words_are_looked_up(rt.alloc())?;
+    assert!(rt; is_found);
+    assert!(rt; is_counted);
+    assert!(rt; is_entered);
     Ok(())
+}
+
+fn words_are_changed(alloc: Global) -> Result<bool, TryReserveError> {
+    let mut map = words(alloc)?;
+    Ok(changes(&mut map))
 }
 
 #[test]
 fn words_are_written_and_taken_out_by_a_literal(rt: HostRuntime) -> Result<(), Fail> {
-    let mut map = words(rt.alloc())?;
-    assert!(rt; changes(&mut map));
+    assert!(rt; words_are_changed(rt.alloc())?);
     Ok(())
 }
