@@ -394,6 +394,7 @@ struct Row {
     wanted: (bool, bool, bool),
 }
 
+// So many rows, by number.
 const ROWS: [Row; 8] = [
     Row {
         ours: &[1, 2, 3],
