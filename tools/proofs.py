@@ -9,7 +9,8 @@ lemma. And somebody cites each lemma, except those that stand for readers and ca
 In answers and lemmas of the tree and its walks each fact that a `let` names by its path is read by that name, but for one that has a type of its own or stands
 right before `omega`: omega reads the records in scope itself, and facts that are functions by such a name alone.
 
-No file of definitions imports a proof of this repository: what a statement means hangs on no proof.
+No file of definitions imports a proof of this repository: what a statement means hangs on no proof. No clause says of something that it is the same, or that
+it follows from itself. And no proof stands in two crates, by other names: what both need stands below them.
 """
 import collections
 import pathlib
@@ -29,6 +30,15 @@ IMPORTED_PROOF = re.compile(r"\s*(?:pub )?use Rattle\.(\w+)\.proofs\.")
 NAMED_FACT = re.compile(r"let ([^\s(){}\[\],;.:=]+) = [\w'-]+(?:\.[\w'-]+)+ in(?! omega)(?:\s|$)")
 # The other crates still name some that nobody reads.
 NAMES_NO_MORE = re.compile(r"crates/(fc_tree_\w+|fc_map_iter)/proofs/(?!.*/(Proof|Invariants)\.antt$)")
+CLAUSE = re.compile(r"\s*(?:requires|ensures)(?: \w+)? \{ (.*) \}[;,]?$")
+SAYS_NOTHING = re.compile(r"(.+) (?:↔|≡|→) \1")
+# A proof of fewer lines may be as another is.
+ALIKE = 12
+TWICE = {
+    "fc_shared_budget/proofs/budget/SharedBudgetAllocator/allocate/Proof.antt": "no crate is generic over the cell that counts yet",
+    "fc_shared_budget/proofs/Meters.antt": "the same",
+    "fc_shared_budget/proofs/Shares.antt": "the same",
+}
 SIGNATURE = re.compile(r"^(\s*)(?:(?:pub|abbrev|record|data) )*([^\s:(){},;|]+) :(?: |$)")
 
 
@@ -66,6 +76,37 @@ def proofs_imported(name, lines):
             yield f"{name}:{number}: a definition imports a proof of {imported[1]}"
 
 
+def says_nothing(name, lines):
+    for number, line in enumerate(lines, 1):
+        clause = CLAUSE.match(line)
+        if clause and SAYS_NOTHING.fullmatch(clause[1]):
+            yield f"{name}:{number}: the clause says nothing"
+
+
+def shape(text):
+    """A proof without imports and comments, in which each name is a number: how many others came before it."""
+    names = {}
+    lines = [it.strip() for it in bare(text).split("\n") if it.strip()]
+    number = lambda word: names.setdefault(word[0], f"{len(names)}") if word[0][0].isalpha() or word[0][0] == "_" else word[0]
+    return [WORD.sub(number, it) for it in lines]
+
+
+def alike(files):
+    """The proofs that another crate has by other names, and those that are excused and are not so any more."""
+    first, excused = {}, {*TWICE}
+    for name, text in files.items():
+        _, crate, part, *_ = name.split("/")
+        lines = shape(text) if part == "proofs" and not name.endswith("/Lib.antt") else []
+        if len(lines) < ALIKE:
+            continue
+        other = first.setdefault("\n".join(lines), name)
+        if other.split("/")[1] != crate and name.removeprefix("crates/") not in TWICE:
+            yield f"{name}: it differs from {other} in nothing but names"
+        elif other != name:
+            excused.discard(name.removeprefix("crates/"))
+    yield from (f"{it} is excused, and need not be" for it in sorted(excused))
+
+
 def block(lines, start, name):
     """The line behind the lemma that begins at a line: its signature, and the equations that begin with its name."""
     indent = len(lines[start]) - len(lines[start].lstrip())
@@ -76,11 +117,15 @@ def block(lines, start, name):
     return len(lines)
 
 
+def bare(text):
+    """A file without its comments and imports."""
+    text = re.sub(r"(?m)^\s*(--|//).*$", "", text)
+    return re.sub(r"(?m)^\s*(?:pub |ghost )*use [^{;\n]*(\{[^}]*\})?", "", text)
+
+
 def words_of(text):
     """How often each word stands in a file, but for its comments and imports."""
-    text = re.sub(r"(?m)^\s*(--|//).*$", "", text)
-    text = re.sub(r"(?m)^\s*(?:pub |ghost )*use [^{;\n]*(\{[^}]*\})?", "", text)
-    return collections.Counter(WORD.findall(text))
+    return collections.Counter(WORD.findall(bare(text)))
 
 
 def uncited(files):
@@ -106,7 +151,8 @@ def main():
     strays = [stray for name, text in files.items() if "/proofs/" in name for stray in strays_of_lines(name, text.split("\n"))]
     strays += [stray for name, text in files.items() for stray in unread(name, text.split("\n"))]
     strays += [stray for name, text in files.items() if "/specs/" in name for stray in proofs_imported(name, text.split("\n"))]
-    strays += uncited(files)
+    strays += [stray for name, text in files.items() if name.endswith(".rt") for stray in says_nothing(name, text.split("\n"))]
+    strays += [*uncited(files), *alike(files)]
     for stray in strays:
         print(stray)
     sys.exit(bool(strays))
