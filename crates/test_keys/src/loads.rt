@@ -2,15 +2,15 @@
 use fc_base::TryReserveError;
 use fc_map::map::BTreeMap;
 use fc_set::set::BTreeSet;
-use fc_vec::{TryCollect, TryFromIterator};
-use std::alloc::Global;
+use fc_vec::TryFromIterator;
+use std::alloc::{AllocError, Global};
 use std::test::Fail;
 use test_values::Tagged;
 
 // So many items that some are gathered twice, and so many numbers at most.
 const ITEMS: u64 = 12_000;
 
-const NUMBERS: u64 = 8_000;
+const NUMBERS: usize = 8_000;
 
 // The number of the item at the place: 37 apart and round, down, in two runs, or up but for one in a hundred.
 fn number_at(order: u64, place: u64) -> u64 {
@@ -31,99 +31,102 @@ fn key_at(order: u64, place: u64) -> Tagged {
 }
 
 // What a plain list tells of the items: for each number the places of the first item and of the last one, counted from one.
-type Plain = Vec<(u64, u64)>;
+#[derive(Drop)]
+struct Plain {
+    first: Vec<u64>,
+    last: Vec<u64>,
+}
 
-fn note(plain: &mut Plain, number: u64, place: u64) {
-    if let Some((first, last)) = plain.get_mut(number as usize) {
-        if *first == 0 {
-            *first = place.wrapping_add(1);
+impl Plain {
+    fn try_new(alloc: Global) -> Result<Plain, AllocError> {
+        let mut first = Vec::new(alloc);
+        let mut last = Vec::new(alloc);
+        for _number in 0..NUMBERS {
+            first.push(0u64)?;
+            last.push(0u64)?;
         }
-        *last = place.wrapping_add(1);
+        Ok(Plain { first, last })
+    }
+
+    fn note(&mut self, number: u64, place: u64) {
+        let at = number as usize;
+        if at < self.first.len() && at < self.last.len() {
+            if self.first[at] == 0 {
+                self.first[at] = place.wrapping_add(1);
+            }
+            self.last[at] = place.wrapping_add(1);
+        }
+    }
+
+    // How many numbers there are.
+    fn count(&self) -> usize {
+        self.first.iter().filter(|place| **place > 0).count()
     }
 }
 
-// How many numbers there are.
-fn count(plain: &Plain) -> usize {
-    plain.iter().filter(|(first, _last)| *first > 0).count()
-}
-
-fn told(alloc: Global, order: u64) -> Result<Plain, TryReserveError> {
-    let mut plain: Plain = TryCollect::try_collect((0..NUMBERS).map(|_number| (0, 0)), alloc)?;
+fn told(alloc: Global, order: u64) -> Result<Plain, AllocError> {
+    let mut plain = Plain::try_new(alloc)?;
     for place in 0..ITEMS {
-        note(&mut plain, number_at(order, place), place);
+        plain.note(number_at(order, place), place);
     }
     Ok(plain)
 }
 
-// Whether the key is the one that the list tells, the first of its number, and the value the last.
+// Whether the pair is the one that the list tells: the first key of its number, and the last value.
 fn is_told(plain: &Plain, order: u64, key: &Tagged, value: u64) -> bool {
-    match plain.get(key.number as usize) {
-        Some((first, last)) => {
+    let at = key.number as usize;
+    match (plain.first.get(at), plain.last.get(at)) {
+        (Some(first), Some(last)) => {
             let wanted = key_at(order, first.wrapping_sub(1));
             *first > 0 && key.is(wanted.number, wanted.letter) && last.wrapping_sub(1) == value
         }
-        None => false,
+        _ => false,
     }
-}
-
-fn is_told_map(plain: &Plain, order: u64, map: &BTreeMap<Tagged, u64>) -> bool {
-    let mut before = None;
-    for (key, value) in map {
-        if !is_told(plain, order, key, *value) || before >= Some(key.number) {
-            return false;
-        }
-        before = Some(key.number);
-    }
-    map.len() == count(plain)
-}
-
-fn makes_told_map(alloc: Global, plain: &Plain, order: u64) -> Result<bool, TryReserveError> {
-    let items = (0..ITEMS).map(|place| (key_at(order, place), place));
-    let map: BTreeMap<Tagged, u64> = BTreeMap::try_from_iterator(alloc, items)?;
-    Ok(is_told_map(plain, order, &map))
 }
 
 fn is_right_map(alloc: Global, order: u64) -> Result<bool, TryReserveError> {
     let plain = told(alloc, order)?;
-    makes_told_map(alloc, &plain, order)
-}
-
-type Set = BTreeSet<Tagged>;
-
-fn is_told_set(plain: &Plain, order: u64, set: &Set) -> bool {
-    for item in set {
-        let (_first, last) = plain.get(item.number as usize).copied().unwrap_or((0, 0));
-        if !is_told(plain, order, item, last.wrapping_sub(1)) {
-            return false;
+    let items = (0..ITEMS).map(|place| (key_at(order, place), place));
+    let map: BTreeMap<Tagged, u64> = BTreeMap::try_from_iterator(alloc, items)?;
+    let mut walk = map.iter();
+    let mut before = None;
+    for _pair in 0..map.len() {
+        let Some((key, value)) = walk.next() else {
+            return Ok(false);
+        };
+        if !is_told(&plain, order, key, *value) || before >= Some(key.number) {
+            return Ok(false);
         }
+        before = Some(key.number);
     }
-    set.len() == count(plain)
-}
-
-fn put_some(set: &mut Set, order: u64) -> Result<(), TryReserveError> {
-    for place in 0..100 {
-        set.try_insert(key_at(order, place))?;
-    }
-    Ok(())
-}
-
-fn extend(alloc: Global, set: &mut Set, order: u64) -> Result<bool, TryReserveError> {
-    let places = (0..ITEMS).map(|place| key_at(order, place));
-    let items: Vec<Tagged> = TryCollect::try_collect(places, alloc)?;
-    Ok(set.try_extend_from_vec(items).is_ok())
+    Ok(map.len() == plain.count())
 }
 
 // A set of which some of the items are there before.
-fn fills_told_set(alloc: Global, set: &mut Set, order: u64) -> Result<bool, TryReserveError> {
-    put_some(set, order)?;
-    let is_extended = extend(alloc, set, order)?;
-    let plain = told(alloc, order)?;
-    Ok(is_extended && is_told_set(&plain, order, set))
-}
-
 fn is_right_set(alloc: Global, order: u64) -> Result<bool, TryReserveError> {
-    let mut set = Set::new(alloc);
-    fills_told_set(alloc, &mut set, order)
+    let plain = told(alloc, order)?;
+    let mut set = BTreeSet::new(alloc);
+    for place in 0..100 {
+        set.try_insert(key_at(order, place))?;
+    }
+    let mut items = Vec::new(alloc);
+    for place in 0..ITEMS {
+        items.push(key_at(order, place))?;
+    }
+    if set.try_extend_from_vec(items).is_err() {
+        return Ok(false);
+    }
+    let mut walk = set.iter();
+    for _item in 0..set.len() {
+        let Some(item) = walk.next() else {
+            return Ok(false);
+        };
+        let last = plain.last.get(item.number as usize).copied().unwrap_or(0);
+        if !is_told(&plain, order, item, last.wrapping_sub(1)) {
+            return Ok(false);
+        }
+    }
+    Ok(set.len() == plain.count())
 }
 
 #[test]
