@@ -3,7 +3,7 @@
 //!
 //! A time is the best of some runs, the two maps in turn, of the time that a phase took (`harness/phases.rs`); a multiple is the median of those that each
 //! round gave (`harness/rounds.rs`). "insert again" is that of keys that are there. With the word `kinds` or `entries` that part is measured alone, at the
-//! sizes behind it or at all, and with `depths` the stack that calls take; with `count` each job runs at a thousand pairs, for `bench/instructions.py`.
+//! sizes after it or at all, and with `depths` the stack that calls take; with `count` each job runs at a thousand pairs, for `bench/instructions.py`.
 mod harness;
 mod jobs;
 

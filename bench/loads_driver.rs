@@ -2,7 +2,7 @@
 //!
 //! A time is the best of some runs, the two maps in turn, of the time that a phase took (`harness/phases.rs`); a multiple is the median of those that each
 //! round gave (`harness/rounds.rs`). To each load belong the first walk over all pairs, walks in a row, and the bytes that a pair takes. With the word `loads`
-//! or `append` that part is measured alone, at the sizes behind it or at all; with `count` each job runs at a thousand pairs, for `bench/instructions.py`.
+//! or `append` that part is measured alone, at the sizes after it or at all; with `count` each job runs at a thousand pairs, for `bench/instructions.py`.
 mod harness;
 mod jobs;
 
@@ -130,7 +130,7 @@ fn appends(pairs: usize) -> Vec<Append> {
 const LOADS: Runs<Load> = [load_ours, load_std];
 const APPENDS: Runs<Append> = [append_ours, append_std];
 
-// Bytes a pair behind the load, on each side.
+// Bytes a pair after the load, on each side.
 fn held(load: &Load) -> [f64; 2] {
     let once = Load {
         walks: 0,

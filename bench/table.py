@@ -16,7 +16,7 @@ unit: a column is then each of its titles that end in ': UNIT', and a cell ours,
 instructions where BESIDE names their title. Of a script with no file in figures/ the page stays as it is.
 
 The table 'above' has each row of the others in which ours are more than std's, by more than a twentieth where they are times, and its reason (figures/reasons,
-lines 'ROW  REASON', 'of sets' behind a row of those; that of 'KIND' is the reason of each row 'KIND: CALL' or 'KIND, CALL' with none of its own). Without a
+lines 'ROW  REASON', 'of sets' after a row of those; that of 'KIND' is the reason of each row 'KIND: CALL' or 'KIND, CALL' with none of its own). Without a
 reason of each the page is not written.
 """
 import pathlib

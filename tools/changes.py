@@ -8,7 +8,7 @@ Needed where something public is another: CHANGELOG.md has to name it.
                               this one, and that a section `## Unreleased` above it names all that is another since then, and the version that this raises.
                               Where that commit is not in the repository, or there is no repository, nothing is compared, which is told
 
-Public is what `fallible_collections` hands on, and what the budgets and `fc_memory` do. A call is named by its type or trait, and what a trait's ghost members
+Public is what `fallible_collections` hands on, and what the budgets and `fc_laws` do. A call is named by its type or trait, and what a trait's ghost members
 state of a type by both names. A changed definition is listed where a public clause names it, or what a public clause names stands on it; whether a clause is
 weaker or stronger, or the same in other words, a person says."""
 import pathlib
@@ -24,7 +24,7 @@ sys.dont_write_bytecode = True
 from surface import NOT_CALLED, Call, Surface, head_of, plain
 
 TOP = pathlib.Path(__file__).resolve().parent.parent
-BESIDE = ("fc_budget", "fc_shared_budget", "fc_memory")
+BESIDE = ("fc_budget", "fc_laws")
 TAKEN = re.compile(r"crates/(fc_\w+|fallible_collections)/(src/.*\.rt|specs/.*\.antt|proofs/[^/]*\.antt)")
 VERSION = re.compile(r"(?m)^## (\d+)\.(\d+)\.(\d+)-(\d+)$")
 NEXT = re.compile(r"(?m)^It will be (\d+\.\d+\.\d+-\d+)\.$")  # tools/release.py reads it too
@@ -135,7 +135,7 @@ def items_of(surface):
 
 
 def defined_in(file):
-    """The names that a file of definitions defines, each with its text: that between blank lines, behind the head of the module around it."""
+    """The names that a file of definitions defines, each with its text: that between blank lines, after the head of the module around it."""
     kept, around = [it for it in file.read_text().splitlines() if not re.match(r"\s*(--|(pub )?use )", it)], ""
     for part in re.split(r"\n\s*\n", "\n".join(kept)):
         lines = [it for it in part.splitlines() if it.strip()]
@@ -226,7 +226,7 @@ def wrapped(text):
 
 
 def by_type(names, sign):
-    """A list of names by the type that they are of; a type or trait that is listed itself has the sign behind it."""
+    """A list of names by the type that they are of; a type or trait that is listed itself has the sign after it."""
     types = {}
     for of, name in names:
         types.setdefault(of, []).append(name)
@@ -239,7 +239,7 @@ def by_type(names, sign):
 
 
 def clause_pairs(old, new):
-    """The clauses that differ, those of one kind and name behind each other, each behind a word that tells which commit has it."""
+    """The clauses that differ, those of one kind and name one after another, each after a word that tells which commit has it."""
     named = lambda it: " ".join(re.match(r"(\w+\*?) ?(\w*)", it).groups())
     left, right = [it for it in old if it not in new], [it for it in new if it not in old]
     for it in left:

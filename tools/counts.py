@@ -21,15 +21,15 @@ UNCOUNTED = {
     "fc_base/src/count.rt": {"compare"},
     "fc_base/src/query.rt": {"order_of", "compare_slices"},
     # the searches for the ends of a range, and whether it is one
-    "fc_tree_cursor/src/cuts.rt": {"first_not_ahead"},
+    "fc_tree_cursor/src/cuts.rt": {"first_not_before"},
     "fc_map/src/map/bounds.rt": {"is_range"},
-    # items that ascend, put behind the last, whose comparisons no contract tells of
-    "fc_tree_build/src/growing.rt": {"is_behind"},
-    "fc_map/src/map/bulk_insert.rt": {"is_behind"},
+    # items that ascend, put after the last, whose comparisons no contract tells of
+    "fc_tree_build/src/growing.rt": {"is_after"},
+    "fc_map/src/map/bulk_insert.rt": {"is_after"},
     "fc_map/src/map/extend.rt": {"is_after_all"},
-    "fc_tree_merge/src/merge.rt": {"step", "pass"},
-    "fc_tree_merge/src/sorted.rt": {"by_key"},
-    "fc_map/src/map/clones.rt": {"is_behind_all"},
+    "fc_tree_append/src/items.rt": {"step", "pass"},
+    "fc_tree_append/src/sorted.rt": {"by_key"},
+    "fc_tree_build/src/ordered.rt": {"is_after_all"},
     # items of an index, whose comparisons no contract tells of
     "fc_index/src/edge.rt": {"order_of"},
     "fc_index/src/steps.rt": {"take_out_old"},
@@ -39,7 +39,7 @@ UNCOUNTED = {
     "fc_intervals/src/gaps.rt": {"next"},
     "fc_intervals/src/map.rt": {"put", "cut"},
     "fc_intervals/src/joins.rt": {"joint_end"},
-    "fc_intervals/src/steps.rt": {"is_free", "rest_behind", "end_at"},
+    "fc_intervals/src/steps.rt": {"is_free", "rest_after", "end_at"},
     # collections compared with one another
     "fc_map_iter/src/compare.rt": {"pair_order", "partial_pair_order"},
     "fc_set/src/set/compare.rt": {"partial_cmp", "cmp"},
@@ -62,7 +62,7 @@ OWN = {
     "fc_tree_append/src/join.rt": {"join", "join_under_root"},
     # pairs asked in turn, and the tree rebalanced after, whose moves nothing promises
     "fc_tree_retain/src/rebalancing.rt": {"join"},
-    "fc_tree_retain/src/filtering.rt": {"filter_own", "filter_between", "remove_behind", "take_last_of_thin", "take_last_of_loose"},
+    "fc_tree_retain/src/filtering.rt": {"filter_pair", "filter_separator", "remove_with_separator", "take_last_of_underfull", "take_last_of_unbalanced"},
     # items of an iterator, whose comparisons and moves nothing promises
     "fc_map/src/map/extend.rt": {"put_next", "put_last"},
     # the set operations, whose comparisons of items of two sets nothing promises

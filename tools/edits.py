@@ -39,10 +39,10 @@ EXCUSED = {
     "fc_tree_build/src/growing.rt: new": "there is no pair that could be put in",
     "fc_tree_slots/src/rest.rt: into_slots": "there is no item that could be left in",
     "fc_command/src/command/world.rt: within": "there is no key, value or item that could be put in",
-    "fc_shared_budget/src/meter.rt: charge": "no clause sees what an atomic holds; tests do",
+    "fc_budget/src/meter.rt: charge": "no clause sees what an atomic holds; tests do",
 }
 # Each call that users may make, of these crates, has a wrong body where it ensures something, but for these: there is no other value that they could give.
-CALLED = "fc_base fc_budget fc_cache fc_hash fc_index fc_intervals fc_map fc_map_iter fc_memory fc_set fc_shared_budget fc_timers fc_vec".split()
+CALLED = "fc_base fc_budget fc_cache fc_hash fc_index fc_intervals fc_map fc_map_iter fc_laws fc_set fc_timers fc_vec".split()
 ALONE = {
     "an empty collection": {"new", "default"},
     "a law has no body": {"held_within", *re.findall(r"(?m)^pub fn (\w+)", (TOP / "crates/fc_base/src/list_laws.rt").read_text())},

@@ -18,7 +18,7 @@ import termios
 import time
 
 TOP = pathlib.Path(__file__).resolve().parent.parent
-# Each program with its words, of which one that has a budget has one behind its name.
+# Each program with its words, of which one that has a budget has one after its name.
 PROGRAMS = [sys.argv[1:]] if len(sys.argv) > 1 else [[str(TOP / "crates/fcrun/out/fcrun")], [str(TOP / "crates/fcrun_memory/out/fcrun_memory"), "1000000"]]
 # A reply comes in microseconds. A program that keeps its replies back is told so after these seconds.
 PATIENCE = 20

@@ -9,7 +9,7 @@ ample, and each reply has to be the one that the lists give. At an odd seed requ
 that is told then has to be one that docs/COMMANDS.md and docs/PROMISES.md allow of that command in that state, and the replies after it have to be those of
 lists which it left as these pages say; as many refusals are told as there were requests refused; and `no memory` ends the run only where the first page says
 so. Some runs have a line that is not a command, after which nothing is run. Each block of memory is given back. Where memory is ample, the last copies of a
-run make no fewer and no more requests than those of sound trees of so many pairs can. Each fourth run fills a map or a set with thin nodes and takes most of
+run make no fewer and no more requests than those of sound trees of so many pairs can. Each fourth run fills a map or a set with underfull nodes and takes most of
 its keys out, in each order in turn, with look-ups and lists of all that is left between.
 
 With --memory the program with a budget runs. At an even seed the bytes suffice by what tools/models/ says of sound trees, so that nothing may be refused; at
@@ -112,7 +112,7 @@ class Shrinking:
         self.fails(renumbered(self.case.lines), self.places)
 
     def cut(self):
-        """Drops the lines behind the one whose reply differs, or at which the program fell: then replies that it had not yet written are lost."""
+        """Drops the lines after the one whose reply differs, or at which the program fell: then replies that it had not yet written are lost."""
         lines, keeps, falls = self.case.lines, 0, self.fault.at + 1
         if self.has_fallen(self.ran):
             falls = len(lines)
@@ -158,7 +158,7 @@ def renumbered(lines):
 
 
 def parts_of(line):
-    """What a line begins with, what of it may be dropped, and what stands between those parts: the letters of a walk, or the words behind the second."""
+    """What a line begins with, what of it may be dropped, and what stands between those parts: the letters of a walk, or the words after the second."""
     words = line.split(b" ")
     if words[0] == b"walk":
         return b" ".join(words[:-1]) + b" ", [words[-1][i : i + 1] for i in range(len(words[-1]))], b""

@@ -4,7 +4,7 @@ each reply. Needed where it told a seed, or one of these programs changed.
 
   tools/fuzz_uses.py SECONDS [SEED] [--runs N] [--tally] [--only NAME] [--program PATH]
 
-The programs are `probe_intervals`, `example_timers`, `example_index` and `example_cache`; --only runs one, which NAME names by its last word. A run is one of
+The programs are `example_intervals`, `example_timers`, `example_index` and `example_cache`; --only runs one, which NAME names by its last word. A run is one of
 each, whose lines are drawn from a seed: SEED (else the time), SEED + 1, and so on, so that it is had again by its seed. At an even seed memory is ample, and
 each reply has to be the one that the model gives. At an odd seed requests for memory are refused, of which the run draws the numbers. A refusal that is told
 then has to be of a line that may be refused there, and the model stays as it was. As many refusals are told as there were requests refused, and each block of

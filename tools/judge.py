@@ -3,7 +3,7 @@
 tools/fuzz.py, tools/refusals.py, tools/large.py and tools/fuzz_uses.py run by it. Needed where the program ends in another way, or gives up elsewhere.
 
 A refusal that is told is followed so: the command is one that may be refused there, the reply hands back what it was given, and what stood before it stands
-behind it. Which pairs a refused extension left is told by the lines that follow."""
+after it. Which pairs a refused extension left is told by the lines that follow."""
 import os
 import pathlib
 import subprocess
@@ -15,7 +15,7 @@ from models.trees import requests_of_copy
 
 top = pathlib.Path(__file__).resolve().parent.parent
 STARTS = 3  # how many requests for memory the program makes at its start
-ARGUMENTS = 4  # how many more, ahead of these, where it reads its one argument, the bytes of its budget
+ARGUMENTS = 4  # how many more, before these, where it reads its one argument, the bytes of its budget
 SHORT = 100  # the bytes of the longest reply that is no list, without its line feed
 PATIENCE = 20  # the most seconds of a run
 FOLLOWED = 2000  # the most states that are followed at once, since each refused extension may have stopped at several pairs
@@ -27,7 +27,7 @@ class Case(NamedTuple):
     requests: tuple = ()  # the numbers of the requests for memory that are refused
     onward: int = 0  # the number of the request from which on each is refused, or 0
     budget: object = None  # the bytes that maps and sets may take together, which a program with a budget is told, or None
-    words: tuple = ()  # what else stands behind the program's name
+    words: tuple = ()  # what else stands after the program's name
 
     def first(self):
         """The number of the first request that is refused, or 0."""
@@ -90,7 +90,7 @@ class Program:
 
 
 def fault_of_copy(at, n, asked):
-    """What is wrong where the copy of n pairs, behind so many lines, made so many requests, or None: the copy of a sound tree makes no fewer and no more."""
+    """What is wrong where the copy of n pairs, after so many lines, made so many requests, or None: the copy of a sound tree makes no fewer and no more."""
     least, most = requests_of_copy(n)
     return None if least <= asked <= most else Fault(at, f"{least} to {most} requests for a copy of {n} pairs in a sound tree", str(asked))
 

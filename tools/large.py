@@ -165,7 +165,7 @@ def through_lines(n):
 
 
 def splits_of_full_trees(n):
-    """Each line extends by a full leaf and what goes up behind it, sixteen times, so that each node is full; and the tree is split at its ends and within."""
+    """Each line extends by a full leaf and what goes up after it, sixteen times, so that each node is full; and the tree is split at its ends and within."""
     lines = Lines()
     for name, other in "ab", "st":
         for at in 0, 1, n // 2, n - 1, n:
@@ -206,7 +206,7 @@ def texts_of(rows):
 
 
 def stretches(n, rows_within):
-    """Stretches are put in, in an order that jumps, each of eight points behind two that have none. Then so many rows change some of them. All are listed."""
+    """Stretches are put in, in an order that jumps, each of eight points after two that have none. Then so many rows change some of them. All are listed."""
     held = {start: (start + 8, start % 7) for start in range(0, 10 * n, 10)}
     rows = [(f"put {start} {held[start][0]} {held[start][1]}", "ok") for start in jumping(held)]
     for start in range(0, 10 * n, n // 5 // 10 * 10):
@@ -322,7 +322,7 @@ def main():
     for n in [int(word) for word in sys.argv[1:]] or SIZES:
         for program, made in ("fcrun", through_lines), ("probe_map", rows_of_maps), ("probe_set", rows_of_sets):
             results.append(compare(program, n, *made(n)))
-    results.append(compare("probe_intervals", OTHERS, *stretches(OTHERS, cut_within)))
+    results.append(compare("example_intervals", OTHERS, *stretches(OTHERS, cut_within)))
     results.append(compare("example_intervals", OTHERS, *stretches(OTHERS, put_within)))
     results.append(compare("example_index", OTHERS, *table(OTHERS)))
     results += [compare("fcrun", n, *splits_of_full_trees(n)) for n in FULL]

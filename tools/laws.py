@@ -35,7 +35,7 @@ def said_first(path):
 
 
 def statements(path, names):
-    """The laws of these names, each behind its comment, under the heads of the modules that they stand in."""
+    """The laws of these names, each after its comment, under the heads of the modules that they stand in."""
     lines = lines_of(path)
     shown, modules, told, found = [], [], [], set()
     for at, line in enumerate(lines):

@@ -4,9 +4,9 @@ with its contract.
 
   tools/new_call.py FILE NAME TESTS    FILE: crates/CRATE/src/.., which has the call; NAME: of the call; TESTS: crates/test_../src/.., which gets its tests
 
-It makes tests, of a call that may be refused also their row of tools/sweep.txt and the call's row in docs/PROMISES.md, and of one that ensures something a
-wrong body, which waits for its trial. What is left to a person says `to be said`, and fails until it is: a test, a wrong body that changes nothing, a row of
-no request. What is there already stays as it is."""
+It makes tests, of which the first has the call's example, of a call that may be refused also their row of tools/sweep.txt and the call's row in
+docs/PROMISES.md, and of one that ensures something a wrong body, which waits for its trial. What is left to a person says `to be said`, and fails until it
+is: a test, a wrong body that changes nothing, a row of no request. What is there already stays as it is."""
 import pathlib
 import re
 import sys
@@ -32,6 +32,7 @@ fn {test}(rt: HostRuntime) {{
     assert!(rt; false);
 }}
 """
+EXAMPLE = TEST.replace("    assert!(rt; false);", "    // example: {call}\n    assert!(rt; false);\n    // end")  # what the pages show of the call
 
 
 def call_of(file, name):
@@ -49,7 +50,7 @@ def last_line(file, name):
 
 
 def adds(path, new, is_there, behind=""):
-    """Adds a text to a file, at its end, or ahead of a line, unless it is there. Answers whether it did."""
+    """Adds a text to a file, at its end, or before a line, unless it is there. Answers whether it did."""
     text = (top / path).read_text() if (top / path).is_file() else ""
     if is_there in text:
         return False
@@ -64,12 +65,12 @@ def made(file, call, tests):
     crate, name, of_tests = file.split("/")[1], call.name, tests.split("/")[1]
     module = "::".join(it for it in pathlib.Path(tests).with_suffix("").parts[3:] if it not in ("lib", "main"))
     does, refused = f"{name}_does_as_it_says", f"a_refused_{name}_leaves_what_was_there"
-    yield tests, adds(tests, TEST.format(name=name, test=does), f"fn {does}(")
+    at = f"{plain(call.owner).rpartition(' for ')[2]}::{name}" if call.owner else name
+    yield tests, adds(tests, EXAMPLE.format(name=name, test=does, call=at), f"fn {does}(")
     if may_be_refused(call.line):
         yield tests, adds(tests, TEST.format(name=f"a refused {name}", test=refused), f"fn {refused}(")
         row = f"{of_tests} {module}{'::' * bool(module)}{refused}"
         yield "tools/sweep.txt", adds("tools/sweep.txt", f"\n# To be said: which requests {name} makes.\n{row} 0 0\n", row)
-        at = f"{plain(call.owner).rpartition(' for ')[2]}::{name}" if call.owner else name
         cells = f"| `{at}` | `{of_tests}::{does}` | `{of_tests}::{refused}` | to be said | to be said |\n"
         yield "docs/PROMISES.md", adds("docs/PROMISES.md", cells, f"`{at}`", "<!-- end of calls that take memory -->")
     if any(it.startswith("ensures") for it in call.clauses):

@@ -56,7 +56,7 @@ PROBED = 255  # the most pairs of a tree whose leaves are filled
 
 
 def spread(lines):
-    """The lines with numbers that lie apart, and what stands behind them."""
+    """The lines with numbers that lie apart, and what stands after them."""
     lines, world = [re.sub("[0-9]+", lambda number: str(APART * int(number[0])), line).encode() for line in lines], [Pairs()] * 4
     for line in lines:
         _, world = answered(world, command_of(line))
@@ -64,7 +64,7 @@ def spread(lines):
 
 
 def short_leaves(program, name, lines, keys):
-    """The keys behind which a leaf takes more new ones than it may have room for, where no memory is to be had from the end of the lines on."""
+    """The keys after which a leaf takes more new ones than it may have room for, where no memory is to be had from the end of the lines on."""
     room, word = CAPACITY - LEAST, {"a": "insert a {} 7", "b": "insert b {} 7", "s": "add s {}", "t": "add t {}"}[name]
     gaps = [0, *keys]
     tried = [word.format(key + more).encode() for key in gaps for more in range(1, room + 2)]
@@ -76,7 +76,7 @@ def short_leaves(program, name, lines, keys):
 
 
 def wrong_leaves(lines):
-    """A function that tells what is wrong with the leaves of a tree behind the lines, by its program and its name; of a lone leaf, nothing is."""
+    """A function that tells what is wrong with the leaves of a tree after the lines, by its program and its name; of a lone leaf, nothing is."""
     lines, world = spread(lines)
 
     def told(program, name):

@@ -17,7 +17,7 @@ TESTS = re.compile(r"(?ms)^#\[cfg\(test\)\]\nmod \w+ \{$.*?^\}$")
 
 
 def end_of(text, at):
-    """The place behind the bracket that closes the one at a place."""
+    """The place after the bracket that closes the one at a place."""
     depths = itertools.accumulate((sign == "(") - (sign == ")") for sign in text[at:])
     return at + next((length for length, depth in enumerate(depths, 1) if depth == 0), len(text))
 

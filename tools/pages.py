@@ -2,7 +2,7 @@
 """Looks that each page quotes the sources as they are. With --write it puts the quotations right. Needed after each change of a source that pages quote,
 count or list.
 
-A quotation is a block of code behind one of these lines in a Markdown file:
+A quotation is a block of code after one of these lines in a Markdown file:
   <!-- code: FILE NAME.. -->       an excerpt: functions without their clauses and comments above them, as Rust would have them
   <!-- body: FILE NAME -->         an excerpt: what stands between the braces of a function
   <!-- proved: FILE NAME.. -->     functions with their clauses, which are whole behind the imports above them on the page
@@ -14,15 +14,16 @@ A quotation is a block of code behind one of these lines in a Markdown file:
   <!-- literal: FILE NAME.. -->    the texts of constants
   <!-- lines: FILE FIRST LAST -->  lines of a file, as of a program's stdin, or of the stdout that `rt ci` compares with what it prints
   <!-- file: FILE -->              a whole file
-A number, or a commit, ahead of '<!-- NAME -->' is one that paging/numbers.py tells. Between '<!-- calls -->' and '<!-- end of calls -->' stands a table of the
-page's calls by the comments at them, between the same of 'words' each word of its contracts that fallible_collections.specs.Words does not hand on, of
-'stands' the crates below and above, of 'costs' what the proofs of the examples are, of 'crates' what the README of each crate of the library says first, of
+  <!-- example: FILE CALL -->      the lines of a test that show this call, between '// example: CALL, CALL..' and '// end'
+A number, or a commit, before '<!-- NAME -->' is one that paging/numbers.py tells. Between '<!-- calls -->' and '<!-- end of calls -->' stands a table of the
+page's calls by the comments at them, between the same of 'examples' an example of each, between the same of 'words' each word of its contracts that fallible_collections.specs.Words does not hand on, of
+'stands' the crates below and above, of 'costs' what the proofs of the examples are, of 'bytes' the bytes of each type by the tests that ask them, of 'crates' what the README of each crate of the library says first, of
 'promises' what it says is proved, only tested or neither, of 'by hand' which functions have a proof written by hand, of 'std' what stands for calls of std's
 collections, by tools/std.txt. docs/GALLERY.md leads to each example, whose READMEs have the same headings. A file's path starts at the top of the repository.
 An indented line of crates.txt is as it stands there. Paths that pages name or lead to are there, those in plain blocks of code too. The entries of
 docs/DECISIONS.md and docs/DIFFERENCES.md are those that tools/told.txt lists, which no option writes: so none goes unnoticed. Rust stands on a page as a
 quotation, and the paragraph above an excerpt leads to the page, or the source, that has the whole; tools/pasted.py proves what is whole as it stands. And it
-looks that what docs/PROMISES.md names behind each wrong body, and behind each call that takes memory, is there: an edit CRATE/edits/NAME or
+looks that what docs/PROMISES.md names after each wrong body, and after each call that takes memory, is there: an edit CRATE/edits/NAME or
 CRATE/must-fail/NAME, a test CRATE::NAME, a file lines/NAME or tools/NAME, or a text 'CRATE/FILE: TEXT'; and that it lists just those calls that take memory
 which are public: functions of the crates that `fallible_collections` hands on, and of those beside it, whose answer has an error of a refused request, under
 the name of their type or trait. At last it looks by tools/tested.py that each public call has a test, and that no merge left its marks."""
@@ -32,6 +33,7 @@ import sys
 sys.dont_write_bytecode = True
 import tested
 from paging import tables
+from paging.examples import examples_of
 from paging.looks import excerpts, gallery, memory, paths_in_blocks, quoted_files, told, wrong_bodies
 from paging.numbers import numbers
 from paging.quoted import QUOTATION, quoted
@@ -46,6 +48,8 @@ TABLES = {
     "promises": lambda file, text: tables.promises(),
     "by hand": lambda file, text: tables.by_hand(),
     "stands": lambda file, text: tables.stands(file.parent.name),
+    "bytes": lambda file, text: tables.bytes_of_types(),
+    "examples": lambda file, text: examples_of(text),
 }
 
 

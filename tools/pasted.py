@@ -24,7 +24,7 @@ TEST = "use std::test::Fail;\n\n#[test]\nfn it_compiles(_rt: HostRuntime) -> Res
 FIRST_LINE = "#![tactic(auto)]\n\n"
 MOST_SECONDS = 2400  # longer even beside other work would mean that the library is proved again
 top = pathlib.Path(__file__).resolve().parent.parent
-QUOTED = re.compile(r"(?ms)^<!-- (?!body|code)(\w+): ([^\n]+) -->\n```rust\n(.*?)^```$")
+QUOTED = re.compile(r"(?ms)^<!-- (?!body|code|example)(\w+): ([^\n]+) -->\n```rust\n(.*?)^```$")
 PROGRAM = re.compile(r"(?m)^fn main\(")
 
 
@@ -39,7 +39,7 @@ class Piece(NamedTuple):
 
 
 def line_of(text, taken):
-    """The crates that a page's line of crates.txt names behind what is taken, if it has one."""
+    """The crates that a page's line of crates.txt names after what is taken, if it has one."""
     said = rf"\w+: ({taken}\b[ \w]*)"
     found = re.search(rf"(?m)^ +{said}$", text) or re.search(rf"(?m)^ +echo '{said}' >>", text)
     return found[1].strip() if found else ""

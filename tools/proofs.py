@@ -34,11 +34,6 @@ CLAUSE = re.compile(r"\s*(?:requires|ensures)(?: \w+)? \{ (.*) \}[;,]?$")
 SAYS_NOTHING = re.compile(r"(.+) (?:↔|≡|→) \1")
 # A proof of fewer lines may be as another is.
 ALIKE = 12
-TWICE = {
-    "fc_shared_budget/proofs/budget/SharedBudgetAllocator/allocate/Proof.antt": "no crate is generic over the cell that counts yet",
-    "fc_shared_budget/proofs/Meters.antt": "the same",
-    "fc_shared_budget/proofs/Shares.antt": "the same",
-}
 SIGNATURE = re.compile(r"^(\s*)(?:(?:pub|abbrev|record|data) )*([^\s:(){},;|]+) :(?: |$)")
 
 
@@ -92,23 +87,20 @@ def shape(text):
 
 
 def alike(files):
-    """The proofs that another crate has by other names, and those that are excused and are not so any more."""
-    first, excused = {}, {*TWICE}
+    """The proofs that another crate has by other names."""
+    first = {}
     for name, text in files.items():
         _, crate, part, *_ = name.split("/")
         lines = shape(text) if part == "proofs" and not name.endswith("/Lib.antt") else []
         if len(lines) < ALIKE:
             continue
         other = first.setdefault("\n".join(lines), name)
-        if other.split("/")[1] != crate and name.removeprefix("crates/") not in TWICE:
+        if other.split("/")[1] != crate:
             yield f"{name}: it differs from {other} in nothing but names"
-        elif other != name:
-            excused.discard(name.removeprefix("crates/"))
-    yield from (f"{it} is excused, and need not be" for it in sorted(excused))
 
 
 def block(lines, start, name):
-    """The line behind the lemma that begins at a line: its signature, and the equations that begin with its name."""
+    """The line after the lemma that begins at a line: its signature, and the equations that begin with its name."""
     indent = len(lines[start]) - len(lines[start].lstrip())
     for number in range(start + 1, len(lines)):
         line = lines[number]

@@ -5,7 +5,7 @@
   tools/refusals.py [--program PATH] [--probe PATH] [--memory PATH]
 
 A case fills maps or sets, so that their trees have no, one, two, three or four levels, has one command, and then counts and lists all that is there. From the
-command's first request on each is refused in turn, and then all from that one on, and at last all behind the command's: the command has to be done or told as
+command's first request on each is refused in turn, and then all from that one on, and at last all after the command's: the command has to be done or told as
 refused, what stands after it has to be what docs/COMMANDS.md says, and what was taken is given back. Where one request is refused, so many runs as the case
 says have to tell that the command was: by reasoning, one for a leaf that it makes, two for an inner node, and one for a list. At a key that is there none is
 made, so that it is answered with all memory refused.
@@ -46,21 +46,21 @@ class Row(NamedTuple):
     is_exact: bool = False
 
 
-# So many keys fill a leaf; sixteen leaves below a root of fifteen; and as many of these below another root. New keys lie in front, within and behind.
+# So many keys fill a leaf; sixteen leaves below a root of fifteen; and as many of these below another root. New keys lie before, within and after.
 FULL, TWO, FOUR = range(2, 32, 2), range(2, 512, 2), range(2, 8192, 2)
 ONE, THREE = range(2, 12), range(2, 302)
-NEW = 9999  # a key beyond all of them
+NEW = 9999  # a key after all of them
 
 
 def begun(leaves, behind):
-    """The keys that make so many leaves, in ascending order: the first of each, with the one behind it; behind the last these, or none."""
+    """The keys that make so many leaves, in ascending order: the first of each, with the one after it; after the last these, or none."""
     ends = [*(leaf[CAPACITY:] for leaf in leaves[:-1]), behind]
     return [key for leaf, end in zip(leaves, ends) for key in [*leaf[: LEAST + 1], *end]]
 
 
 def full_order(keys):
     """The keys in an order in which insertions leave each node full, of one level to three. Those that come in ascending order leave one key more than
-    the least in each node behind which another begins. So nine leaves of each inner node come first, then its others, and at last what the leaves lack."""
+    the least in each node after which another begins. So nine leaves of each inner node come first, then its others, and at last what the leaves lack."""
     each = CAPACITY + 1
     leaves = [keys[at : at + each] for at in range(0, len(keys), each)]
     *others, last = [leaves[at : at + each] for at in range(0, len(leaves), each)]
@@ -76,7 +76,7 @@ def extends(name, keys):
 
 
 def places(keys):
-    """New keys in front of these, within and behind."""
+    """New keys before these, within and after."""
     return [NEW] if not keys else [keys[0] - 1, keys[len(keys) // 2] + 1, NEW]
 
 
@@ -268,7 +268,7 @@ def tried(work):
 
 
 class Load(NamedTuple):
-    """The row of a load, the stretches of numbers that are there before and behind it, and whether each request that is refused refuses it."""
+    """The row of a load, the stretches of numbers that are there before and after it, and whether each request that is refused refuses it."""
 
     row: str
     before: str

@@ -8,7 +8,7 @@
 VERSION is that of CHANGELOG.md's newest heading of a version where the crates are as in the commit that its section names, and else the one that the section
 Unreleased says will come, that word and the commit: 0.5.0-1-unreleased-0123abcd. KIT is the first word of `rt version`. The checkout has to be as its commit
 is. Archived are the crates of the library as `tools/take.py` takes them, with their pages, that
-script, and what is proved of them: `rt ci` takes over what this machine kept of the crates, as after ./test, and proves the others from nothing. `rt check`
+script, the site of their calls and pages (site/index.html), and what is proved of them: `rt ci` takes over what this machine kept of the crates, as after ./test, and proves the others from nothing. `rt check`
 goes on from that once a stamp says what it was made of, which the kit's own code makes; a crate that names all of them is checked as a trial.
 RELEASE in it has the commit, the kit, what `rt ci` and the gate said (that it was not seen, where no LOG is given) and the checksum of each file."""
 import contextlib
@@ -112,6 +112,9 @@ def stage(folder):
         to.parent.mkdir(parents=True, exist_ok=True)
         shutil.copy(file, to)
     (folder / "crates.txt").write_text("".join(f"{lines[it]}\n" for it in crates))
+    is_well, said = ran(sys.executable, top / "tools/site.py", "--write", folder / "site")
+    if not is_well:
+        stop(f"the site is not made: {said}")
     return crates
 
 
@@ -159,7 +162,7 @@ def tried(folder, crates):
 
 
 def listed(folder):
-    """The archive's files: what was proved behind all else."""
+    """The archive's files: what was proved after all else."""
     files = [it.relative_to(folder).as_posix() for it in folder.rglob("*") if it.is_file() and it != folder / "RELEASE"]
     return sorted((it for it in files if "/out/" not in it or take.proof_of.match(it)), key=lambda it: (bool(take.proof_of.match(it)), it))
 
@@ -194,7 +197,7 @@ def seal(folder, said):
 
 
 def pack(folder, archive, level):
-    """Packs the folder, with RELEASE ahead of all else. Times and owners are the same wherever it is made."""
+    """Packs the folder, with RELEASE before all else. Times and owners are the same wherever it is made."""
     seconds = int(git("log", "-1", "--format=%ct") or 0)
 
     def plain(it):

@@ -3,19 +3,20 @@
 no text.
 
   tools/site.py [--check]         makes it and writes nothing; it fails at a link that leads nowhere, a word of a contract without a definition, a public call
-                               without a text, and HTML that is not well-formed
+                               without a text or an example, and HTML that is not well-formed
   tools/site.py --write FOLDER    makes it in a folder, which is new, empty or of an earlier site
-  tools/site.py --browser FOLDER  opens each page of a site in headless chromium and looks for errors, and whether the search finds its way
+  tools/site.py --browser FOLDER  opens each page of a site in headless chromium and looks for errors, whether the search finds its way, and whether it finds each
+                               public call, with an example and a link to its source
 
 What is public is read from what `fallible_collections` hands on, and from the crates beside it; texts and contracts from the sources, definitions from
-`specs/`, guides from the repository's pages. tools/site_pages/ has its parts, and toolchain.txt there what words of the toolchain mean."""
+`specs/`, guides from the repository's pages, examples from tests, where '// example: BTreeMap::get' and '// end' mark them (tools/site_pages/examples.py). tools/site_pages/ has its parts, and toolchain.txt there what words of the toolchain mean."""
 import json
 import pathlib
 import shutil
 import sys
 
 sys.dont_write_bytecode = True
-from site_pages import check, lists, pages
+from site_pages import check, found, lists, pages
 
 top = pathlib.Path(__file__).resolve().parent.parent
 FILES = ["site.css", "search.js"]
@@ -34,6 +35,7 @@ def made():
     lists.word_pages(site)
     lists.all_names(site)
     lists.first_page(site)
+    site.source_pages()
     pictures = sorted(top.glob("docs/*.svg"))
     wrong = site.lacking + [f"no definition of a word: {it}" for it in dict.fromkeys(site.linker.lacking)]
     wrong += check.wrong_in(site.pages, {*FILES, *(it.name for it in pictures)})
@@ -55,7 +57,8 @@ def write(folder, site, pictures):
     for it in pictures:
         shutil.copyfile(it, folder / it.name)
     shutil.copyfile(pages.here / "site.css", folder / "site.css")
-    (folder / "search.js").write_text(f"const NAMES = {json.dumps(site.names, ensure_ascii=False)};\n{(pages.here / 'search.js').read_text()}")
+    names = json.dumps(found.entries(site), ensure_ascii=False, separators=(",", ":"))
+    (folder / "search.js").write_text(f"const NAMES = {names};\n{(pages.here / 'search.js').read_text()}")
 
 
 def main(asked):

@@ -13,7 +13,7 @@ import re
 import sys
 
 TREE = """fc_base fc_tree_slots fc_tree_node fc_tree_search fc_tree_insertion fc_tree_removal fc_tree_split fc_tree_cursor fc_map_iter fc_tree_for_each fc_tree_copy
-fc_tree_build fc_tree_append fc_tree_merge fc_map fc_set""".split()
+fc_tree_build fc_tree_append fc_map fc_set""".split()
 TESTS = "test_node test_tree test_map test_keys test_whole_trees probe_map probe_set probe_rows".split()
 NAMED = {"fc_base/specs/Sizes.antt"}
 PLACES = "fc_tree_slots/proofs/raw/"

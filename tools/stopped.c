@@ -1,7 +1,7 @@
-/* A thread that is stopped behind each of its looks at a budget in turn, while another one takes bytes of it or gives them back, for tools/threads.
+/* A thread that is stopped after each of its looks at a budget in turn, while another one takes bytes of it or gives them back, for tools/threads.
 
    Threads that run at once seldom meet between two looks, on a busy machine least. So here the page that the budget lies in is closed to one thread: a look at it
-   faults, is let through alone, and the thread stops behind it. There the other one takes its bytes, and there or behind a later look it gives them back: behind
+   faults, is let through alone, and the thread stops after it. There the other one takes its bytes, and there or after a later look it gives them back: after
    each two looks in turn. The others are contexts of the one thread, which the budget cannot tell. Of the library's requests tools/threads.c tells more. */
 #define _GNU_SOURCE
 #include <signal.h>
@@ -57,7 +57,7 @@ static void pause_at(enum place place) {
   swapcontext(&it->context, &scheduler);
 }
 
-/* Has a thread go on up to a place, or past it where it does not come there. */
+/* Has a thread go on up to a place, or over it where it does not come there. */
 static void go_on(struct thread *it, enum place place) {
   while (it->at < place) {
     running = it;
@@ -65,7 +65,7 @@ static void go_on(struct thread *it, enum place place) {
   }
 }
 
-/* What the other one does behind this look. */
+/* What the other one does after this look. */
 static void between(void) {
   if (looks == takes_at) go_on(&others[0], HOLDS);
   if (looks == gives_at) go_on(&others[0], AT_END);
@@ -142,7 +142,7 @@ static void make(struct thread *it, size_t bytes) {
 
 static bool is_well(const struct thread *it, bool fits) { return it->is_done && it->left == cap && !(fits && it->refused); }
 
-/* Whether a run went well in which the other one takes and gives back behind these looks. */
+/* Whether a run went well in which the other one takes and gives back after these looks. */
 static bool run(const struct kind *kind, size_t takes, size_t gives) {
   cap = kind->cap;
   out = 0;

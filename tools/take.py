@@ -3,6 +3,7 @@
 
   tools/take.py FOLDER [CRATE..]     CRATE: fallible_collections (the default at the first time), one of the crates that it stands on, or of those beside it
   tools/take.py --from ARCHIVE FOLDER [CRATE..]    the same from an archive that tools/release.py made, with what was proved of the crates
+  tools/take.py --proved FOLDER [CRATE..]    the same from a checkout, with what this machine kept of the crates' proofs, or else proves, in an hour
   tools/take.py --check FOLDER       tells which files are not as they were taken
 
 Each crate comes with all that it stands on: sources, definitions, proofs, pages and its line of crates.txt; without tests and wrong bodies. Budgets come
@@ -26,8 +27,8 @@ import tempfile
 
 parts = ("src", "specs", "proofs", "README.md", "CALLING.md", "COUNTED.md")
 home = "fc_base"  # each taking has this crate
-alone = ["fc_cache", "fc_index", "fc_intervals", "fc_shared_budget", "fc_timers"]  # crates that come where they are asked for
-beside = {"fc_base": ["fc_budget"], "fc_map": ["fc_laws", "fc_memory"]}  # what callers of a crate use besides, in crates that it doesn't stand on
+alone = ["bounded_lines", "fc_cache", "fc_index", "fc_intervals", "fc_timers"]  # crates that come where they are asked for
+beside = {"fc_base": ["fc_budget"], "fc_map": ["fc_laws"]}  # what callers of a crate use besides, in crates that it doesn't stand on
 proof_of = re.compile(r"crates/(\w+)/out/rlib/")  # where an archive has what was proved of a crate
 origin = f"*Taken with the library: what this page names and is not here stands in the repository of the commit in `crates/{home}/TAKEN`.*"
 
@@ -56,7 +57,7 @@ def below(crate, lines):
 
 
 def library(lines):
-    """All crates of the library, each behind those that it stands on."""
+    """All crates of the library, each after those that it stands on."""
     asked = ["fallible_collections", *(more for it in beside.values() for more in it), *alone]
     return list(dict.fromkeys(it for name in asked for it in below(name, lines)))
 
@@ -267,24 +268,55 @@ def stop_if_lacking(archive, lacking):
 
 
 def keep(archive, to, crates, sums):
+    """Puts what an archive has as proved of these crates into their out/. Answers of how many crates it was."""
+    lacking = {path for path in sums if (it := proof_of.match(path)) and it[1] in crates}
+    wanted = {*lacking}
+
+    def proofs():
+        for path, content in files_in(archive, wanted.__contains__):
+            lacking.discard(path)
+            yield path, content
+        stop_if_lacking(archive, lacking)
+
+    return place(to, crates, proofs())
+
+
+def place(to, crates, proofs):
     """Puts what was proved of these crates into their out/, in the place of what is there. Stamps, without which it counts for nothing, come last.
     Those of the taker's own libraries go: they are built over what was there, and are built again in seconds."""
-    lacking, stamps = {path for path in sums if (it := proof_of.match(path)) and it[1] in crates}, {}
+    stamps = {}
     for stamp in to.glob("crates/*/out/rlib/stamp"):
         stamp.unlink()
     for crate in crates:
         shutil.rmtree(to / f"crates/{crate}/out/rlib", ignore_errors=True)
-    for path, content in files_in(archive, set(lacking).__contains__):
-        lacking.discard(path)
+    for path, content in proofs:
         if path.endswith("/out/rlib/stamp"):
             stamps[path] = content
         elif proof_of.match(path):
             (to / path).parent.mkdir(parents=True, exist_ok=True)
             (to / path).write_bytes(content)
-    stop_if_lacking(archive, lacking)
     for path, content in stamps.items():
         (to / path).write_bytes(content)
     return len(stamps)
+
+
+def take_proved(top, to, asked):
+    """Takes from a checkout, and with it what `rt ci` proves of the crates on a copy: what this machine kept is taken over."""
+    import release  # beside this script in a checkout
+
+    crates = take(top, to, asked)
+    with tempfile.TemporaryDirectory() as room:
+        folder = pathlib.Path(room) / "copy"
+        for path, file in sources(top, crates).items():
+            (folder / "crates" / path).parent.mkdir(parents=True, exist_ok=True)
+            shutil.copy(file, folder / "crates" / path)
+        lines = lines_of(top)
+        (folder / "crates.txt").write_text("".join(f"{lines[it]}\n" for it in crates))
+        release.proved(folder)
+        release.stamp(folder, crates)
+        found = sorted(it for crate in crates for it in (folder / f"crates/{crate}/out/rlib").rglob("*") if it.is_file())
+        count = place(to, crates, ((it.relative_to(folder).as_posix(), it.read_bytes()) for it in found))
+    print(f"what was proved of {count} crates came along, as out/rlib of each, with which rt check of a crate of yours goes on")
 
 
 def kit():
@@ -310,10 +342,10 @@ def take_from(archive, to, asked):
 
 
 def main(words):
-    checks, archive = words[:1] == ["--check"], ""
+    checks, proves, archive = words[:1] == ["--check"], words[:1] == ["--proved"], ""
     if words[:1] == ["--from"] and len(words) > 2:
         archive, words = pathlib.Path(words[1]), words[2:]
-    words = words[checks:]
+    words = words[checks or proves :]
     if not words or words[0].startswith("-") or checks and len(words) > 1:
         sys.exit(__doc__)
     to, top = pathlib.Path(words[0]), pathlib.Path(__file__).resolve().parent.parent
@@ -324,8 +356,10 @@ def main(words):
     if not checks:
         if not lines_of(top):
             stop("no checkout of the library stands round this script: --from takes from an archive")
+        if proves:
+            return take_proved(top, to, words[1:])
         take(top, to, words[1:])
-        print("rt ci NAME of that crate proves over what this machine kept, where the first rt check proves the library again")
+        print("rt ci NAME of that crate proves over what this machine kept, where the first rt check proves the library again, but after take.py --proved")
         return
     name, lines, sums = taken_before(to)
     if not sums:

@@ -2,9 +2,9 @@
 know.
 
 Tests here are the sources of the crates whose names begin with one of TESTS: each holds tests, or tests or rows of text run what it holds. A call counts as
-made where such a source uses its type and has its name behind a dot, or behind `::`, which where it takes no `self` has its type ahead; or where it has what
+made where such a source uses its type and has its name after a dot, or after `::`, which where it takes no `self` has its type before; or where it has what
 mostly stands for a call of that name (WRITTEN). A source uses a type that it names, by itself or by an alias of its crate, and one that a call on a type which
-it uses answers, or a case of it holds. A function of no type is called where it stands behind a path, or is imported.
+it uses answers, or a case of it holds. A function of no type is called where it stands after a path, or is imported.
 
 Nothing is compiled here. So of the types that one source uses it can't tell which has a call of a name that several have, and of signs as `==` not even whether
 it is one of these. It sees neither whether what makes a call is run, nor what a test expects of it."""
@@ -15,7 +15,7 @@ import re
 from surface import NOT_CALLED, Call, Surface, clause, plain
 
 TESTS = ("test_", "probe_", "callers_", "example_", "fcrun")
-ROOTS = ("fallible_collections", "fc_budget", "fc_shared_budget", "fc_memory", "fc_intervals", "fc_cache", "fc_timers", "fc_index")  # what a user's crate names
+ROOTS = ("fallible_collections", "fc_budget", "fc_laws", "fc_intervals", "fc_cache", "fc_timers", "fc_index")  # what a user's crate names
 INNER = {*NOT_CALLED, "fc_map_iter/src/compare.rt"}  # what crates of the library alone call
 # What mostly stands for a call of one of std's traits; an empty text: nothing, as where a value is dropped.
 WRITTEN = {

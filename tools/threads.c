@@ -1,7 +1,7 @@
 /* Four threads at once that take bytes of one `SharedBudget` and give them back, for tools/threads.
 
    The library asks this program for memory, by `malloc`. So all threads get one block for the box of their budget, by which they share it; each has a place of
-   its own for the blocks of its rounds, and what is out is counted here, behind the budget's own count and ahead of its giving back: the sum never passes the
+   its own for the blocks of its rounds, and what is out is counted here, after the budget's own count and before its giving back: the sum never passes the
    cap where the budget's does not. A request of WAIT bytes waits for the others, and is refused. */
 #include <pthread.h>
 #include <stdatomic.h>

@@ -32,7 +32,7 @@ def kind_of(words, where):
 
 
 def fields_of(pid):
-    """Returns what stands in a process's line of state, behind its name."""
+    """Returns what stands in a process's line of state, after its name."""
     return pathlib.Path(f"/proc/{pid}/stat").read_text().rpartition(")")[2].split()
 
 

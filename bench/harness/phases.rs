@@ -122,7 +122,7 @@ pub fn depths(job: impl FnOnce()) -> Vec<usize> {
     (1..=count).map(|i| marks[i].depth).collect()
 }
 
-/// The machine, and what else it does, behind the commit that `bench/run` measures.
+/// The machine, and what else it does, after the commit that `bench/run` measures.
 pub fn machine() -> String {
     let commit = env::var("COMMIT").map_or(String::new(), |commit| format!("at {commit}: "));
     let text = |file| fs::read_to_string(file).unwrap_or_default();

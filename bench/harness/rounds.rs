@@ -5,7 +5,7 @@ use std::hint::black_box;
 /// A job of ours, and the same of std's.
 pub type Runs<J> = [fn(&J) -> u64; 2];
 
-/// How wide the name of a row and a number are, and the digits behind its point.
+/// How wide the name of a row and a number are, and the digits after its point.
 pub type Form = (usize, usize, usize);
 
 /// Prints a row of both sides, and ours as a multiple of std's.

@@ -54,7 +54,7 @@ fn walked_by_two<R: Threads + Sync>(rt: &R, map: &Numbers) -> (u64, u64) {
     )
 }
 
-/// A map of four times as many numbers: each thread makes a part and hands it over, and one behind the other they are appended.
+/// A map of four times as many numbers: each thread makes a part and hands it over, and one after the other they are appended.
 fn made_by_four<R: Threads + Sync>(
     rt: &R,
     alloc: Global,

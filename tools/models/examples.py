@@ -7,7 +7,7 @@ OUT, NO = "out of memory", "no memory"
 
 
 def told_among(ran, refusals, wanted):
-    """How many of the first lines are replied to by these refusals. `wanted` gives the replies to those at other places, and what stands behind all."""
+    """How many of the first lines are replied to by these refusals. `wanted` gives the replies to those at other places, and what stands after all."""
     well = [at for at, it in enumerate(refusals) if ran.replies[at : at + 1] != [it]]
     replies, behind = wanted(well)
     replied = dict(zip(well, replies))
@@ -97,7 +97,7 @@ def hands_back(row):
 def rows_of_set(whole):
     """Each row is answered as it should be, up to the first refusal. Then a row may answer another thing, but none tells that a refused call changed a set or
     that an item was lost, each refused insertion tells the very item that it was given, and the last row is as it should be; or the probe could not begin.
-    Where one request is refused, and the row that it is of comes once more, that and those behind it are answered as they should be."""
+    Where one request is refused, and the row that it is of comes once more, that and those after it are answered as they should be."""
 
     def told(ran):
         refused, is_off, last = 0, False, ""

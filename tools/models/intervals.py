@@ -43,7 +43,7 @@ class Intervals(Model):
         self.many += self.starts(start, end)
 
     def starts(self, start, end):
-        """How many intervals start in a range of places or just behind it."""
+        """How many intervals start in a range of places or just after it."""
         points = [None, *self.points][start : end + 2]
         return sum(held is not None and held != before for before, held in zip(points, points[1:]))
 
@@ -56,7 +56,7 @@ class Intervals(Model):
             at += 1
 
     def go_on(self, at):
-        """Has the interval ahead of a place go on over the one that begins there. It is another then than what goes on behind both."""
+        """Has the interval before a place go on over the one that begins there. It is another then than what goes on behind both."""
         self.made, self.many = self.made + 1, self.many - 1
         start, end = (next(run for run in self.runs(0, len(self.points)) if run[side] == at)[1 - side] for side in (1, 0))
         self.points[start:end] = [(self.made, self.points[at][1])] * (end - start)

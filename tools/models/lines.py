@@ -5,7 +5,7 @@ DEEP = 1 / 5  # how many of the runs have trees of four levels
 # The words of commands on maps and on sets: those that put in, those that take out or move many at once, and the others.
 GROWING = {"insert", "entry", "both", "extend", "add", "replace"}
 SWEEPING = {"clear", "append", "split", "copy", "keep diff", "keep sym", "keep inter", "keep union"}
-# Keys that come in descending order leave 8 pairs in each node that is not in front. So of the keys from the 16th on each ninth splits the first leaf, and of
+# Keys that come in descending order leave 8 pairs in each node that is not before. So of the keys from the 16th on each ninth splits the first leaf, and of
 # these splits from the 16th on each ninth the first node above, and so on: from 16 + 9 * 15 keys on there are three levels, and from 16 + 9 * (15 + 9 * 15)
 # on four. The same is so, the other way round, where keys come in ascending order below one that stays the greatest.
 THIN = {3: 16 + 9 * 15, 4: 16 + 9 * (15 + 9 * 15)}
@@ -70,7 +70,7 @@ class Talk:
         return [first + gap * i for i in range(size)]
 
     def thin(self, name, levels, order):
-        """Lines by which a map or a set gets many keys, which stand in thin nodes on so many levels, and loses most of them in this order."""
+        """Lines by which a map or a set gets many keys, which stand in underfull nodes on so many levels, and loses most of them in this order."""
         draw = self.draw
         keys = self.keys(THIN[levels] + draw.choice([0, 100, 300, 500]))
         out = ORDERS[order](draw, keys)

@@ -28,7 +28,7 @@ def many(found):
 class Model:
     """What a program holds. Each word of KINDS is a method, which answers a line of that word by its numbers."""
 
-    KINDS = {}  # each word, with how many numbers it has behind it, and what it may meet
+    KINDS = {}  # each word, with how many numbers it has after it, and what it may meet
     held = ()  # all entries
 
     def length(self):
@@ -69,7 +69,7 @@ class Talk:
         return self.MODEL()
 
     def numbers(self, word, key):
-        """The numbers behind a word. Where it names a key, that is this one."""
+        """The numbers after a word. Where it names a key, that is this one."""
         raise NotImplementedError
 
     def shown(self):

@@ -19,7 +19,7 @@ class Timers(Model):
         self.held = {}
 
     def lay(self, timer, due):
-        """Sets a timer behind all others."""
+        """Sets a timer after all others."""
         self.held.pop(timer, None)
         self.held[timer] = due
 
@@ -62,7 +62,7 @@ class TalkOfTimers(Talk):
 
     def __init__(self, draw):
         super().__init__(draw)
-        self.ahead = draw.choice([1, 4, self.size, 10**9])  # how far ahead of the clock times are
+        self.ahead = draw.choice([1, 4, self.size, 10**9])  # how far before the clock times are
         self.pace = draw.choice([0, 1, self.ahead // 10 + 1])  # how far the clock goes on between two lines that say what is due
         self.clock = draw.choice([0, 0, 10**6, GREATEST - self.ahead])
 

@@ -65,7 +65,7 @@ class Node:
         return self.split(left_of(at)) if len(self.keys) > CAPACITY else None
 
     def split(self, left):
-        """Keeps so many keys, and hands out the next one and a node of those behind it."""
+        """Keeps so many keys, and hands out the next one and a node of those after it."""
         right = Node(self.keys[left + 1 :], None if self.children is None else self.children[left + 1 :])
         up = self.keys[left]
         self.keys = self.keys[:left]

@@ -13,7 +13,7 @@ from surface import NOT_CALLED, NUMBERS, Call, plain
 def excerpts(file, text):
     """Looks that all Rust on a page is quoted, and that the paragraph above an excerpt leads to where the whole is."""
     for at in re.finditer(r"(?m)^```rust$", text):
-        if not re.search(r"(?m)^<!-- (code|body|proved|caller|imports|file): [^\n]+ -->\n\Z", text[: at.start()]):
+        if not re.search(r"(?m)^<!-- (code|body|proved|caller|imports|file|example): [^\n]+ -->\n\Z", text[: at.start()]):
             wrong.append(f"{file.relative_to(top)}: line {text[: at.start()].count(chr(10)) + 1} begins Rust that is no quotation")
     for found in re.finditer(r"(?m)^<!-- (?:code|body): (\S+) (.+?) -->$", text):
         above = text[: found.start()].rstrip().rpartition("\n\n")[2]

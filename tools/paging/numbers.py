@@ -1,4 +1,4 @@
-"""The numbers that pages tell, by the names behind them. Needed where a page tells a new one."""
+"""The numbers that pages tell, by the names after them. Needed where a page tells a new one."""
 import functools
 import re
 
@@ -9,7 +9,7 @@ from paging.tables import proved_by_hand
 
 @functools.cache
 def numbers():
-    """What pages tell numbers of, under the name behind each."""
+    """What pages tell numbers of, under the name after each."""
     edits = lambda folder: [*top.glob(f"crates/*/{folder}/*.edit")]
     waiting = len(waiting_edits())
     figures = {}

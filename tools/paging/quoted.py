@@ -1,4 +1,4 @@
-"""Quotations: what stands in a block of code behind one of the marks that tools/pages.py has in its head. Needed where a mark is new, or the sources have
+"""Quotations: what stands in a block of code after one of the marks that tools/pages.py has in its head. Needed where a mark is new, or the sources have
 another form."""
 import functools
 import re

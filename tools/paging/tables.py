@@ -167,7 +167,7 @@ def may_be_refused(line):
 
 
 def named_call(name, types):
-    """A public call by its name in tools/std.txt, of the type ahead of it or else of those of its table."""
+    """A public call by its name in tools/std.txt, of the type before it or else of those of its table."""
     of, _, last = name.rpartition("::")
     found = [it for each in ([of] if of else [*types, ""]) if (it := here.public_calls.get(each, {}).get(last))]
     if not found:
@@ -188,10 +188,19 @@ def row_of_std(line, types):
     return "| " + " | ".join(cells) + " |"
 
 
+def table_of_forms(title, lines):
+    """The table of forms that are refused, or do another thing than one thinks: what is written, what stands for it, and what tells it."""
+    rows = [re.fullmatch(r"(.*?) => (.*?)(?: \| (.*))?", it).groups() for it in lines]
+    made = [f"| {written} | {instead} | {told or ''} |" for written, instead, told in rows]
+    return "\n".join([f"## {title}", "", "| Written | Here | What the compiler says, or why |", "|---|---|---|", *made])
+
+
 def table_of_std(section):
     """The table of one of std's types, by its lines in tools/std.txt."""
     head, *lines = section.strip().splitlines()
     title, _, types = head.removeprefix("== ").partition(": ")
+    if any(" => " in it for it in lines):
+        return table_of_forms(title, lines)
     types = types.split()
     rows, same, none = [], [], []
     for line in lines:
@@ -210,3 +219,15 @@ def table_of_std(section):
 def from_std():
     """The tables of what stands here for each call of std's collections, by tools/std.txt."""
     return "\n\n".join(table_of_std(it) for it in (top / "tools/std.txt").read_text().split("\n\n")[1:])
+
+
+NAMED = "BTreeMap|BTreeSet|TryVec|TryHashMap|TryHashSet|TryBox|Budget|SharedBudget|Cache|IntervalMap|Table|TimerQueue"  # what users name
+
+
+def bytes_of_types():
+    """The bytes of each type by itself, as tests ask them: with `Global`, and where it takes its memory of a budget."""
+    asked = [it for file in sorted(top.glob("crates/test_*/src/**/*.rt")) for it in re.findall(rf"size_of::<((?:{NAMED})<.*>)>\(\) == (\d+)\)", file.read_text())]
+    within = {text.replace(", &Budget<Global>>", ">"): count for text, count in asked if "&Budget" in text}
+    rows = [f"| `{text}` | {count} | {within.get(text, '')} |" for text, count in asked if "&Budget" not in text]
+    wrong.extend(["docs/USING.md: no test asks the bytes of a type"] * (not rows))
+    return "\n".join(["| Type | Bytes | With `&Budget<Global>` |", "|---|---|---|", *rows])

@@ -2,7 +2,7 @@
 import html
 import re
 
-from . import markdown, surface as surfaces
+from . import markdown, surface as surfaces, traits
 
 ERRORS = r"\b(TryReserveError|AllocError|ServeError|Reply)\b|\bio::Result\b"
 SHOWN_AS = {"io::Result": "io::Error"}
@@ -37,10 +37,11 @@ class Calls:
 
     # What a page has.
 
-    def start(self, public=None):
-        """Begins a page, whose addresses are all new."""
+    def start(self, public=None, path=""):
+        """Begins a page, of a type or of a module, whose addresses are all new."""
         self.ids, self.page_calls, self.side = set(), {}, []
         self.page, self.shown_at = (public.page, public.home.partition("::")[2]) if public else ("", "")
+        self.shown_in = public.home if public else path
         if public:
             for it, _, _ in self.inherent(public):
                 self.page_calls.setdefault(it.name, it.name)
@@ -83,7 +84,7 @@ class Calls:
         return page if page != self.page else None
 
     def parts(self, doc):
-        """The parts of a comment: what is ahead of its errors, and these."""
+        """The parts of a comment: what is before its errors, and these."""
         at = next((i for i, it in enumerate(doc) if it.strip() == "# Errors"), len(doc))
         end = next((i for i in range(at + 1, len(doc)) if doc[i].startswith("# ")), len(doc))
         return doc[:at] + doc[end:], doc[at + 1 : end]
@@ -138,7 +139,8 @@ class Calls:
         anchor = self.anchor(prefix + call.name)
         said, refused = self.parts(call.doc)
         errors = self.errors(call, owner)
-        head = f'<h{level} id="{anchor}"><a class="here" href="#{anchor}"><code>{call.name}</code></a> {"" if of_std and not errors else self.mark(call, owner)}</h{level}>'
+        source = self.site.source_link(module.path, call.line)
+        head = f'<h{level} id="{anchor}"><a class="here" href="#{anchor}"><code>{call.name}</code></a> {"" if of_std and not errors else self.mark(call, owner)} {source}</h{level}>'
         bounds = f'<p class="of"><code>{self.sign(owner.text, module)}</code></p>' if owner is not None and owner.kind == "impl" and not of_std else ""
         when = ""
         if errors and not refused and not of_std:
@@ -151,7 +153,19 @@ class Calls:
         if of_std and not call.doc:
             said = self.as_trait(call, owner, module)
         sign = f'<pre tabindex="0" class="sign"><code>{self.sign(call.text, module)}</code></pre>'
-        return f'<section class="call">{head}{bounds}{sign}{self.prose(said)}{when}{self.contract(call, owner, module)}</section>'
+        shown = "" if of_std else self.examples(call, owner)
+        return f'<section class="call">{head}{bounds}{sign}{self.prose(said)}{when}{shown}{self.contract(call, owner, module)}</section>'
+
+    def examples(self, call, owner):
+        """What shows a call in use: lines of tests, and functions that have a contract of their own."""
+        of = f"{self.shown_in}::{call.name}"
+        made = ""
+        for it in self.site.examples.find(of)[:2]:
+            test = self.site.source_link(it.path, it.line, "a test")
+            made += f'<figure class="example"><figcaption>Example, of {test}</figcaption><pre tabindex="0"><code>{escape(it.text)}</code></pre></figure>'
+        name = "" if owner is None else self.shown_in.rpartition("::")[2]
+        callers = self.site.callers_of(name, call.name)
+        return made + (f'<p class="callers">Called with a contract in {", ".join(callers)}</p>' if callers else "")
 
     def as_trait(self, call, owner, module):
         """What is said of a call that a trait of the library has: where it is told there."""
@@ -217,9 +231,11 @@ class Calls:
         types = "".join(f'<pre class="sign" tabindex="0"><code>{self.sign(it.text, module)}</code></pre>' for it in impl.of_kind("type"))
         mark = "" if not any(self.errors(it, impl) for it in functions) else ' <span class="mark may">may be refused</span>'
         inside = self.prose(impl.doc) + types + self.ghosts(impl, module) + calls
+        said = markdown.Page().inline(traits.in_words(impl.text, of_trait))
+        told = f' <span class="kind">{said}</span>' * bool(said) + f" {self.site.source_link(module.path, impl.line)}"
         if not inside:
-            return f'<p class="impl bare" id="{anchor}"><code>{self.sign(impl.text, module)}</code></p>'
-        return f'<details class="impl" id="{anchor}"><summary><code>{self.sign(impl.text, module)}</code>{mark}</summary>{inside}</details>'
+            return f'<p class="impl bare" id="{anchor}"><code>{self.sign(impl.text, module)}</code>{told}</p>'
+        return f'<details class="impl" id="{anchor}"><summary><code>{self.sign(impl.text, module)}</code>{mark}{told}</summary>{inside}</details>'
 
     def impls_of(self, public):
         """The traits of a type, derived ones first; of a trait the types that have it."""
@@ -233,7 +249,8 @@ class Calls:
         made = [f'<h2 id="{self.anchor("traits")}">{title}</h2>']
         self.side = []
         if derived:
-            made.append(f'<p>Derived: {", ".join(f"<code>{it}</code>" for it in derived)}.</p>')
+            rows = "".join(f"<li>{markdown.Page().inline(it)}</li>" for it in traits.derived(derived))
+            made.append(f"<p>Derived, as each of its parts has them:</p><ul>{rows}</ul>")
         if crosses:
             made.append(f"<p>{crosses}, where what it holds is: a test asks it of numbers.</p>")
         return "".join(made) + "".join(self.impl(it, module, of_trait) for it, module in pairs)

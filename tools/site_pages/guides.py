@@ -3,7 +3,7 @@ import html
 import pathlib
 import re
 
-from . import calls, markdown
+from . import calls, found, markdown
 
 
 def escape(text):
@@ -17,7 +17,7 @@ class Guides:
         """The pages of the repository that the site has, by their paths."""
         found = {"README.md": "guide.README.html"}
         found |= {str(it.relative_to(self.top)): f"guide.{it.stem}.html" for it in sorted(self.top.glob("docs/*.md"))}
-        for pattern in ("fallible_collections", "fc_*", "example_*", "fcrun*"):
+        for pattern in ("fallible_collections", "fc_*", "bounded_lines", "example_*", "fcrun*"):
             for it in sorted(self.top.glob(f"crates/{pattern}/*.md")):
                 found[str(it.relative_to(self.top))] = f"{it.stem.lower() if it.stem != 'README' else 'crate'}.{it.parent.name}.html"
         found |= {str(it.relative_to(self.top)): f"example.{it.parent.name}.html" for it in sorted(self.top.glob("examples/*/README.md"))}
@@ -58,13 +58,16 @@ class Guides:
     def guide(self, path, page):
         text = self.titled((self.top / path).read_text(), path)
         made = markdown.Page(self.lead_from(path), lambda code: self.guides.get(code) if code != path else None)
+        made.row_id = found.row_id if path == found.FROM_STD else made.row_id
         body = made.html(text)
         title = re.sub(r"<[^>]*>", "", made.headings[0][2]) if made.headings else path
         listed = "".join(f'<li><a href="{self.guides[it]}"{" aria-current=page" if it == path else ""}>{self.title_of(it)}</a></li>' for it in self.guides if "/" not in it or it.startswith("docs/"))
         inside = "".join(f'<li><a href="#{anchor}">{re.sub("</?a[^>]*>", "", said)}</a></li>' for level, anchor, said in made.headings if level == 2)
         side = f"<h2>On this page</h2><ul>{inside}</ul>" * bool(inside) + f"<h2>Guide</h2><ul>{listed}</ul>"
         self.add(page, html.unescape(title), f'<p class="from">{escape(path)}</p>{body}', side)
-        self.names.append((html.unescape(title), path, page, "guide"))
+
+    def plain_title(self, path):
+        return re.search(r"(?m)^# (.+)$", (self.top / path).read_text())[1].replace("`", "")
 
     def title_of(self, path):
         return markdown.Page(lambda to: None).inline(re.search(r"(?m)^# (.+)$", (self.top / path).read_text())[1])

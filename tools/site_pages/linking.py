@@ -21,7 +21,7 @@ def link(target, text, kind="word"):
 
 
 def bound_in(text):
-    """The names that a text binds: by a λ or a `let`, or ahead of a colon in parentheses or braces."""
+    """The names that a text binds: by a λ or a `let`, or before a colon in parentheses or braces."""
     found = set()
     for names in re.findall(r"λ ([^.]*)\.", text) + re.findall(r"[({;]\s*([\w' ]+) :", text) + re.findall(rf"\blet ({NAME})", text):
         found |= {*re.findall(NAME, names)}
@@ -168,7 +168,7 @@ class Names:
         return "lacking"
 
     def member(self, name, before):
-        """A member of what stands ahead of the point: of a module, of a type's traits, or of an enum."""
+        """A member of what stands before the point: of a module, of a type's traits, or of an enum."""
         path, target = before
         head = path.split(".")[0]
         if head in self.there and not self.there[head][1]:

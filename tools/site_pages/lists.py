@@ -3,7 +3,7 @@ import html
 import itertools
 import re
 
-from . import markdown, words
+from . import found, markdown, words
 from .calls import in_lines
 from .pages import escape, short
 
@@ -13,17 +13,16 @@ that stood at the key in the map's list of pairs, as it was before the call."""
 
 
 def first_page(site):
-    """What the library is, where to start, and its types by module."""
+    """What the library is, its types by module, those that users name most before all, and then how to take it."""
     readme = (site.top / "README.md").read_text()
     lead = site.lead_from("README.md")
     page = markdown.Page(lead)
-    opening = page.html(site.titled(readme[: readme.index("\n## What there is")], "README.md"))
-    guides = re.search(r"(?ms)^\[[^\n]*\]\(docs/USING\.md\),.*?^$", readme)
-    start = markdown.Page(lead).html(site.titled(guides[0] if guides else "", "README.md"))
-    body = [opening, f'<p><a class="more" href="{site.guides["README.md"]}">How to try it, and what is proved</a></p>']
-    body.append(f'<h2 id="start">Read on</h2>{start}')
-    side = ['<p><a href="#start">Read on</a></p><h2>Modules</h2><ul>']
-    body.append('<h2 id="types">Types and functions, by module</h2>')
+    head, _, rest = site.titled(readme[: readme.index("\n## What there is")], "README.md").partition("\n\n## ")
+    title, _, said = head.partition("\n\n")
+    first, _, more = said.partition("\n\n")
+    used = sorted((it for it in site.surface.types if it.name in found.FIRST), key=lambda it: found.FIRST.index(it.name))
+    body = [page.html(f"{title}\n\n{first}"), f'<h2 id="types">Types</h2>{site.rows_of_types(used)}<h2 id="modules">All types and functions, by module</h2>']
+    side = ['<p><a href="#types">Types</a></p><p><a href="#start">Read on</a></p><h2>Modules</h2><ul>']
     for path in site.homes:
         types, functions = site.in_module(path)
         if not types and not functions:
@@ -31,6 +30,10 @@ def first_page(site):
         anchor = "module." + path.replace("::", ".")
         side.append(f'<li><a href="#{anchor}"><code>{escape(short(path))}</code></a></li>')
         body.append(f'<h3 id="{anchor}"><a href="{path.replace("::", ".")}.html"><code>{escape(short(path))}</code></a></h3>{site.rows_of_types(types, functions)}')
+    body.append('<h2 id="start">What it is, and how to take it</h2>' + page.html(more + "\n\n## " + rest))
+    body.append(f'<p><a class="more" href="{site.guides["README.md"]}">How to try it, and what is proved</a></p>')
+    guides = re.search(r"(?ms)^\[[^\n]*\]\(docs/USING\.md\),.*?^$", readme)
+    body.append(markdown.Page(lead).html(site.titled(guides[0] if guides else "", "README.md")))
     site.add("index.html", "fallible_collections for Rattle", "".join(body), "".join([*side, "</ul>"]))
 
 
@@ -74,18 +77,18 @@ def one_crate(site, crate, group, linked):
         title = "Types that definitions name" if module == "type" else module
         side.append(f"<h2>{title}</h2><ul>" + "".join(f'<li><a href="#{html.escape(it.target.anchor)}"><code>{escape(it.name)}</code></a></li>' for it in inside) + "</ul>")
         body.append(f'<h2 id="of.{module}">{title}</h2>')
-        body += [definition(it, linked[it.target]) for it in inside]
+        body += [definition(site, it, linked[it.target]) for it in inside]
     site.add(f"words.{crate}.html", f"Words of {crate}", "".join(body), "".join(side))
 
 
-def definition(word, code):
+def definition(site, word, code):
     """A word with the comment above it and its definition."""
     given = f'<p class="of">for each <code>{escape(" ".join(word.given))}</code></p>' if word.given else ""
     said = markdown.Page().html(word.said) if word.said else ""
     anchor = html.escape(word.target.anchor)
     head = f'<h3><a class="here" href="#{anchor}"><code>{escape(word.name)}</code></a></h3>'
     shown = f'<pre class="clauses" tabindex="0"><code>{in_lines(code)}</code></pre>'
-    return f'<section class="word" id="{anchor}">{head}{said}{given}{shown}<p class="from">{escape(word.path)}</p></section>'
+    return f'<section class="word" id="{anchor}">{head}{said}{given}{shown}<p class="from">{site.source_link(word.path, word.line, escape(word.path))}</p></section>'
 
 
 def language(site):

@@ -27,9 +27,10 @@ class Page:
 
     def __init__(self, lead=lambda to: to, lead_code=lambda code: None, top_level=1):
         self.lead, self.lead_code, self.top_level = lead, lead_code, top_level
-        self.headings, self.taken = [], {}
+        self.headings, self.taken, self.row_id = [], {}, lambda heading, cell: ""
 
     def html(self, text):
+        text = re.sub(r"(?m)^<!-- (?:proved|caller): \S+ ([^\n]+) -->$", r"@@ \1", text)  # a place that calls lead to
         kept = [re.sub(r"(?s)<!--.*?-->\n?", "", it) if at % 4 == 0 else it for at, it in enumerate(FENCE.split(text))]
         whole = "".join(it if at % 4 == 0 else "" if at % 4 != 3 else f"{kept[at - 2]}```{kept[at - 1]}\n{it}{kept[at - 2]}```" for at, it in enumerate(kept))
         return self.blocks(whole.splitlines())
@@ -61,6 +62,8 @@ class Page:
             return "blank"
         if line.strip().startswith("```"):
             return "fence"
+        if line.startswith("@@ "):
+            return "place"
         if re.match(r"#{1,6} ", line):
             return "heading"
         if line.startswith("|"):
@@ -82,6 +85,12 @@ class Page:
                 break
             end += 1
         return end
+
+    def place(self, lines):
+        """The places of the functions that stand below."""
+        new = [it for it in lines[0].split()[1:] if not self.taken.setdefault(f"proved.{it}", 0)]
+        self.taken |= {f"proved.{it}": 1 for it in new}
+        return "".join(f'<span id="proved.{it}"></span>' for it in new)
 
     def fence(self, lines):
         indent = len(lines[0]) - len(lines[0].lstrip())
@@ -128,7 +137,15 @@ class Page:
 
     def rows(self, rows, tag):
         scope = ' scope="col"' if tag == "th" else ""
-        return "".join("<tr>" + "".join(f"<{tag}{scope}>{self.inline(it)}</{tag}>" for it in row) + "</tr>\n" for row in rows)
+        return "".join(f"<tr{self.id_of(row) * (tag == 'td')}>" + "".join(f"<{tag}{scope}>{self.inline(it)}</{tag}>" for it in row) + "</tr>\n" for row in rows)
+
+    def id_of(self, row):
+        """The address of a row that something leads to."""
+        made = self.row_id(self.headings[-1][1] if self.headings else "", row[0])
+        if not made or made in self.taken:
+            return ""
+        self.taken[made] = 1
+        return f' id="{html.escape(made)}"'
 
     def cells(self, line):
         inside = line.strip().removeprefix("|").removesuffix("|")

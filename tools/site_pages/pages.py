@@ -4,7 +4,9 @@ import html
 import pathlib
 import re
 
-from . import calls, guides, linking, markdown, surface as surfaces, words
+from tested import WRITTEN
+
+from . import calls, examples, guides, linking, listings, markdown, surface as surfaces, words
 
 here = pathlib.Path(__file__).resolve().parent
 MAIN = surfaces.ROOTS[0]
@@ -64,17 +66,27 @@ def meanings(file):
     return found
 
 
-class Site(guides.Guides):
+class Site(guides.Guides, listings.Listings):
     """All pages of the site, by their names."""
 
     def __init__(self, top):
-        self.top, self.pages, self.names, self.lacking = top, {}, [], []
+        self.top, self.pages, self.names, self.lacking, self.texts = top, {}, [], [], {}
         self.surface = surfaces.Surface(top)
         self.meanings = meanings(here / "toolchain.txt")
         self.words = words.Words(self.surface, self.meanings)
         self.linker = linking.Linker(self.surface, self.words)
         self.guides = self.find_guides()
         self.calls = calls.Calls(self)
+        self.examples = examples.Examples(top, self.call_paths())
+        self.lacking += self.examples.wrong
+
+    def call_paths(self):
+        """The path of each public call that users make, and what may stand for its name, as a sign does."""
+        calls = [(f"{it.home}::{call.name}", call, module.path) for it in self.surface.types for call, _, module in self.calls.inherent(it)]
+        calls += [(it.home, it.item, it.module.path) for it in self.surface.functions]
+        calls = [it for it in calls if not it[0].startswith(surfaces.BOUNDS)]
+        self.files_of_calls = {path: file for path, _, file in calls}
+        return {path: WRITTEN.get(it.name, "") for path, it, _ in calls}
 
     # What pages of the repository tell of calls.
 
@@ -148,7 +160,7 @@ class Site(guides.Guides):
         crate_page = self.guides.get(f"crates/{crate}/CALLING.md") or self.guides.get(f"crates/{crate}/README.md")
         ahead = f'<p class="from"><a href="{module.replace("::", ".")}.html">{escape(short(module))}</a> · {KINDS[item.kind].lower()} · defined in <a href="{crate_page}"><code>{crate}</code></a></p>'
         use = f'<pre class="use" tabindex="0"><code>use {escape(public.shortest)};</code></pre>' if module != surfaces.BOUNDS else ""
-        head = f'{ahead}<h1>{KINDS[item.kind]} <code>{item.name}</code></h1>{use}'
+        head = f'{ahead}<h1>{KINDS[item.kind]} <code>{item.name}</code> {self.source_link(public.module.path, item.line)}</h1>{use}'
         body = head + self.declaration(public) + telling.prose(item.doc) + self.variants(public) + self.models(public)
         if item.kind == "trait" and item.of_kind("ghost"):
             body += f'<h2 id="{telling.anchor("ghosts")}">What a type says for contracts</h2>{telling.ghosts(item, public.module, True)}'
@@ -159,6 +171,7 @@ class Site(guides.Guides):
         self.add(public.page, f"{item.name} in {short(module)}", body + traits, self.side_of(public, groups, bool(traits)))
         self.names.append((item.name, short(module), public.page, "type"))
         self.names += [(it.name, f"{short(module)}::{item.name}", f"{public.page}#{it.name}", "call") for it, _, _ in telling.inherent(public)]
+        self.texts |= {f"{public.page}#{it.name}": " ".join(it.doc) for it, _, _ in telling.inherent(public)} | {public.page: " ".join(item.doc)}
         if not item.doc:
             self.lacking.append(f"{public.home} has no text")
         self.lacking += [f"{public.home}::{it.name} has no text" for it, _, _ in telling.inherent(public) if not it.doc]
@@ -205,7 +218,7 @@ class Site(guides.Guides):
     def module_page(self, path):
         """A module: what is said of it, its types, and its functions in full."""
         module, telling = self.surface.modules[path], self.calls
-        telling.start()
+        telling.start(path=path)
         types, functions = self.in_module(path)
         telling.page_calls = {it.name: it.name for it in functions}
         body = f'<h1>Module <code>{escape(short(path))}</code></h1>{telling.prose(module.doc)}'
@@ -217,6 +230,7 @@ class Site(guides.Guides):
         if functions:
             body += '<h2 id="functions">Functions</h2>' + "".join(telling.call(it.item, None, it.module, 3) for it in functions)
         self.lacking += [f"{it.home} has no text" for it in functions if not it.item.doc]
+        self.texts |= {f"{it.page}#{it.name}": " ".join(it.item.doc) for it in functions}
         self.add(path.replace("::", ".") + ".html", f"Module {short(path)}", body)
         self.names.append((short(path).rpartition("::")[2], path.rpartition("::")[0], path.replace("::", ".") + ".html", "module"))
         self.names += [(it.name, short(path), f"{it.page}#{it.name}", "call") for it in functions]

@@ -1,25 +1,30 @@
-// The search over names. `NAMES` has for each a name, where it is, its page with the anchor, and what it is.
+// The search over names and texts. `NAMES` has for each a name, where it is, its page with the anchor, what it is, how far behind others that fit as well it
+// stands, and a text.
 "use strict";
 (function () {
   const field = document.getElementById("search"), list = document.getElementById("found"), told = document.getElementById("told");
   let active = -1;
 
-  // How well a name fits what is sought: the less, the better; none where it does not.
+  // How well an entry fits what is sought: the less, the better; none where it does not. What std calls `insert` is `try_insert` here.
   function rank(entry, sought) {
-    const name = entry[0].toLowerCase(), whole = (entry[1] + "::" + entry[0]).toLowerCase();
-    if (name === sought) return 0;
-    if (whole.endsWith("::" + sought)) return 1;
-    if (name.startsWith(sought)) return 2;
+    const name = entry[0].toLowerCase(), whole = ("::" + entry[1] + "::" + entry[0]).toLowerCase();
+    const tried = sought.replace(/(\w+)$/, "try_$1");
+    if (name === sought || name === tried) return 0;
+    if (whole.endsWith("::" + sought) || whole.endsWith("::" + tried)) return 1;
+    if (name.startsWith(sought) || name.startsWith(tried)) return 2;
     if (name.includes("_" + sought)) return 3;
     if (name.includes(sought)) return 4;
-    return sought.includes(":") && whole.includes(sought) ? 5 : -1;
+    if (sought.includes(":") && whole.includes(sought)) return 5;
+    const words = sought.split(/\s+/);
+    if (words.every((it) => name.includes(it))) return 6;
+    return sought.length > 2 && words.every((it) => entry[5].includes(it) || name.includes(it)) ? 9 : -1;
   }
 
   function find(sought) {
-    const kinds = ["type", "module", "call", "guide", "word"];
+    const kinds = ["type", "module", "call", "std", "guide", "word"];
     const found = NAMES.map((entry) => [rank(entry, sought), kinds.indexOf(entry[3]), entry]).filter((it) => it[0] >= 0);
-    for (const it of found) it[0] += it[2][3] === "word" ? 3 : 0; // what can be called comes ahead of what contracts say
-    found.sort((a, b) => a[0] - b[0] || a[1] - b[1] || a[2][0].length - b[2][0].length || (a[2][1] + a[2][0] < b[2][1] + b[2][0] ? -1 : 1));
+    for (const it of found) it[0] += it[2][3] === "word" ? 3 : 0; // what can be called comes before what contracts say
+    found.sort((a, b) => a[0] - b[0] || a[1] - b[1] || a[2][4] - b[2][4] || a[2][0].length - b[2][0].length || (a[2][1] + a[2][0] < b[2][1] + b[2][0] ? -1 : 1));
     return found.map((it) => it[2]);
   }
 

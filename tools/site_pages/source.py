@@ -20,6 +20,7 @@ class Item:
     clauses: list = dataclasses.field(default_factory=list)
     members: list = dataclasses.field(default_factory=list)
     has_body: bool = False
+    line: int = 0  # where it begins, from 1
 
     @property
     def is_public(self):
@@ -53,8 +54,9 @@ class Reader:
             elif line.startswith("//") or not line:
                 self.comment(line, doc, remarks)
             else:
+                line = self.at + 1
                 item = self.item(indent)
-                item.doc, item.remarks, item.attributes = doc, remarks, " ".join(attributes)
+                item.doc, item.remarks, item.attributes, item.line = doc, remarks, " ".join(attributes), line
                 found.append(item)
                 doc, remarks, attributes = [], [], []
         return found
@@ -101,7 +103,7 @@ class Reader:
         return item
 
     def function(self, indent, name):
-        """A function: its signature, its clauses, and past its body."""
+        """A function: its signature, its clauses, and after its body."""
         sign, clauses, ends = [], [], False
         while not ends:
             line = self.lines[self.at].strip()

@@ -5,7 +5,7 @@ import re
 
 from . import source
 
-ROOTS = ("fallible_collections", "fc_budget", "fc_shared_budget", "fc_memory", "fc_intervals", "fc_cache", "fc_timers", "fc_index")  # what a user's crate names
+ROOTS = ("fallible_collections", "fc_budget", "fc_laws", "fc_intervals", "fc_cache", "fc_timers", "fc_index")  # what a user's crate names
 BOUNDS = "bounds"  # where traits are shown that calls ask for and no user names
 TYPES = ("struct", "enum", "trait", "type")
 
@@ -49,6 +49,13 @@ class Public:
     def page(self):
         """The page of a type, or that of its module where a function is shown."""
         return (self.home if self.item.kind in TYPES else self.home.rpartition("::")[0]).replace("::", ".") + ".html"
+
+
+def with_those_below(modules):
+    """The modules, each with those below it."""
+    for module in modules:
+        yield module
+        yield from with_those_below(module.inner.values())
 
 
 def split_names(text):
@@ -108,11 +115,8 @@ class Surface:
 
     def all_modules(self):
         """The modules of the library's crates, each with those below it."""
-        ahead = [self.crate(it.parent.parent.name) for pattern in ("fc_*", "fallible_collections") for it in sorted(self.top.glob(f"crates/{pattern}/src/lib.rt"))]
-        while ahead:
-            it = ahead.pop(0)
-            yield it
-            ahead = [*it.inner.values(), *ahead]
+        crates = [self.crate(it.parent.parent.name) for pattern in ("fc_*", "fallible_collections") for it in sorted(self.top.glob(f"crates/{pattern}/src/lib.rt"))]
+        return with_those_below(crates)
 
     def names(self, module):
         """What a module can name: by its name a module, a pair of an item and its module, or a path; and whether others see it there."""
@@ -186,30 +190,37 @@ class Surface:
             for item, home in [each for text, module in texts if not self.is_hidden(module, text) for each in self.hidden(module, text)]:
                 self.public.setdefault(id(item), Public(item, home, [f"{BOUNDS}::{item.name}"]))
 
+    def aliases(self, item):
+        """The public aliases of a type that users can name by these alone."""
+        public = [it for it in self.public.values() if it.item.kind == "type"] if id(item) not in self.public else []
+        return [it for it in public if self.named(it.module, head_of(it.item.text.partition("=")[2].strip()))[0] is item]
+
     def add_impls(self):
-        """Gives each impl to the types and the traits of the library that it is of."""
+        """Gives each impl to the types and the traits of the library that it is of, and to the public aliases of a type that has no public name."""
         for module in self.all_modules():
             for it in module.items:
-                if it.kind != "impl" or self.is_hidden(module, it.text):
+                trait, of = parts_of_impl(it.text) if it.kind == "impl" else ("", "")
+                item, _ = self.named(module, head_of(of)) if of else (None, True)
+                owners = self.aliases(item) if item is not None else []
+                if it.kind != "impl" or self.is_hidden(module, it.text) and not owners:
                     continue
-                trait, of = parts_of_impl(it.text)
-                for name in {head_of(trait), head_of(of)} - {""}:
-                    item, _ = self.named(module, name)
-                    if item is not None and id(item) in self.public and (it, module) not in self.public[id(item)].impls:
-                        self.public[id(item)].impls.append((it, module))
+                found = [self.named(module, name)[0] for name in (head_of(trait), head_of(of)) if name]
+                owners += [self.public[id(each)] for each in found if each is not None and id(each) in self.public]
+                for owner in owners:
+                    if (it, module) not in owner.impls:
+                        owner.impls.append((it, module))
 
     @functools.cached_property
     def crossing(self):
         """Which types may go to another thread, by the tests that ask it."""
         found = {}
-        for crate in ("test_bounds", "test_shared_budget"):
-            for module in (self.crate(crate), *self.crate(crate).inner.values()):
-                text = (self.top / module.path).read_text()
-                for bound, name in re.findall(r"\b(crosses|sends)::<(\w+)", text):
-                    name = (re.findall(rf"(?m)^type {name} = (\w+)", text) or [name])[0]
-                    item, _ = self.named(module, name)
-                    said = "<code>Send</code> and <code>Sync</code>" if bound == "crosses" else "<code>Send</code>"
-                    found |= {id(item): said} if item is not None else {}
+        for module in with_those_below([self.crate("test_callers"), self.crate("test_budget")]):
+            text = (self.top / module.path).read_text()
+            for bound, name in re.findall(r"\b(crosses|sends)::<(\w+)", text):
+                name = (re.findall(rf"(?m)^type {name} = (\w+)", text) or [name])[0]
+                item, _ = self.named(module, name)
+                said = "<code>Send</code> and <code>Sync</code>" if bound == "crosses" else "<code>Send</code>"
+                found |= {id(item): said} if item is not None else {}
         return found
 
     @functools.cached_property
@@ -247,6 +258,6 @@ def parts_of_impl(text):
 
 
 def head_of(text):
-    """The name of a type ahead of its parameters, without references."""
+    """The name of a type before its parameters, without references."""
     found = re.match(r"(?:&(?:'\w+ )?(?:mut )?)*((?:\w+::)*\w+)", text)
     return found[1] if found else ""

@@ -34,6 +34,10 @@ class Word:
     place: tuple = (0, 0)  # which file of its crate's Lib.antt it stands in, and where
 
     @property
+    def line(self):
+        return self.place[1] + 1
+
+    @property
     def target(self):
         return Target(f"words.{self.crate}.html", f"{self.module}.{self.name}", self.said)
 
@@ -75,7 +79,7 @@ class File:
         return not re.match(r" *(pub )?(use|mod|module|open)\b", line) and bool(is_data or re.match(rf" *(?:(?:abbrev|pub|unfoldable) )*{NAME} :", line))
 
     def end_of(self, at, indent, start):
-        """Where a definition ends: behind its lines, and those of its equations."""
+        """Where a definition ends: after its lines, and those of its equations."""
         end = at + 1
         while end < len(self.lines):
             line = self.lines[end]
@@ -87,7 +91,7 @@ class File:
         return end
 
     def goes_on(self, at, indent, start):
-        """Whether a definition of several paragraphs goes on behind a blank line."""
+        """Whether a definition of several paragraphs goes on after a blank line."""
         rest = next((it for it in self.lines[at:] if it.strip()), "")
         return "record" in start[2] and len(rest) - len(rest.lstrip()) > indent
 
@@ -171,4 +175,4 @@ class Words:
         said = " ".join(item.doc or item.remarks)
         fields = "\n".join(f"    {it.text}" for it in item.members if not it.text.startswith("ghost use"))
         code = f"{item.text} {{\n{fields}\n}}" if fields else item.text
-        return self.own(Word(module.crate, "type", item.name, said, code, [], module.path, (10**6, 0)))
+        return self.own(Word(module.crate, "type", item.name, said, code, [], module.path, (10**6, item.line - 1)))

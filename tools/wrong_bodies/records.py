@@ -92,11 +92,12 @@ def reached(crate, code, brings, items):
     """All that matters to bodies of a crate in which these words stand and these definitions are brought."""
     reach, found = Reach(crate, code, brings), {it for it in items if not it.names}
     items = {it for it in items if it.names}
-    while found:
+    while True:
         reach.takes(found)
         found = {it for it in items if any(reach.names(it.crate, name) for name in it.names)}
+        if not found:
+            return reach
         items = items - found
-    return reach
 
 
 class Item:

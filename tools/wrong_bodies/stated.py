@@ -86,7 +86,7 @@ def stated_by(item):
 
 
 def implementer(text):
-    """The name of the type that an impl block is of, by its text behind `impl`, or from the type on; none if it is of no type with a name."""
+    """The name of the type that an impl block is of, by its text after `impl`, or from the type on; none if it is of no type with a name."""
     words, depth = text.replace("- >", "").split(), 0
     for at, it in enumerate(words):
         if depth == 0 and it != "<":
@@ -183,7 +183,7 @@ class Statements:
         self.items = [(*named, "\n".join([it, *used_in(it, self.used)])) for *named, it in self.items]
 
     def divide(self, token):
-        """Ends an item behind the token that was read, if it ends there."""
+        """Ends an item after the token that was read, if it ends there."""
         self.depth += BRACKETS.get(token, 0) if self.kept[-1:] == [token] else 0
         item = self.kept[self.begun :]
         words = {*item[: item.index("{")]} if "{" in item else {*item}

@@ -44,7 +44,7 @@ fn seen(map: &BTreeMap<u64, u64>, other: &BTreeMap<u64, u64>) -> u64 {
     mixed(ends, other.first_key_value().map(|pair| *pair.0))
 }
 
-// Lets both maps go without a drop, so that the phase behind it is not the longer for it.
+// Lets both maps go without a drop, so that the phase after it is not the longer for it.
 fn leak(map: BTreeMap<u64, u64>, other: BTreeMap<u64, u64>) {
     let _leaked = ManuallyDrop::new(map);
     let _leaked_too = ManuallyDrop::new(other);

@@ -34,7 +34,7 @@ impl Key for (u64, u64) {
     }
 }
 
-// Thirteen letters behind the beginning.
+// Thirteen letters after the beginning.
 impl Key for String {
     fn of(alloc: Global, beginning: &str, number: u64) -> Result<Self, TryReserveError> {
         let mut text = String::with_capacity(alloc, 64)?;

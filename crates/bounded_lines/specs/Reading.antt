@@ -7,7 +7,7 @@ abbrev pub held : ℕ → List ℕ → Option (List ℕ)
 held room line = if nat_le (length line) room then Some line else None
 
 -- A line and its line feed were taken off a source, or the last line, which has none and is not empty; or the source had ended;
--- or a read failed behind these bytes of a line.
+-- or a read failed after these bytes of a line.
 abbrev pub IsTaken : {E : Type 0} → Option (List ℕ) → Option (List ℕ) → List ℕ → Result Bool E → Type 0
 IsTaken before after line (Ok true) = Consumes before after (line ++ 10 ∷ []) ⊎ (Consumes before after line × IsAtEnd after × (0 < length line))
 IsTaken before after line (Ok false) = Consumes before after [] × IsAtEnd after × (line ≡ [])

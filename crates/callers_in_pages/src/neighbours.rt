@@ -63,14 +63,14 @@ pub fn first_from<'a, K: Ord + Drop, V: Drop>(
     map.first_at_or_after(key)
 }
 
-/// The first name behind this one, which is itself no `String`.
+/// The first name after this one, which is itself no `String`.
 pub fn next_name<'a>(ages: &'a BTreeMap<String, u64>, name: &str) -> Option<(&'a String, &'a u64)>
     ensures { now_pair result ≡ first_item (above text_order (entries ages.now) name.now) }
 {
     ages.first_after(name)
 }
 
-/// The first number behind this one.
+/// The first number after this one.
 pub fn next_number(numbers: &BTreeSet<u64>, number: u64) -> Option<u64>
     ensures { result ≡ first_item (greater nat_cmp (items numbers.now) number) }
 {

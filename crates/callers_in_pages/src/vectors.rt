@@ -4,7 +4,7 @@ ghost use Rattle.fallible_collections.specs.Words.{MayRefuse};
 
 use fallible_collections::{TryReserveError, TryVec};
 
-/// Puts two items behind the vector's own. Once there is room for both no push is refused, so that each is unwrapped.
+/// Puts two items after the vector's own. Once there is room for both no push is refused, so that each is unwrapped.
 ///
 /// # Errors
 /// Those of `TryVec::reserve` for two items. The vector is then as before.

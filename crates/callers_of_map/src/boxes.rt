@@ -36,7 +36,7 @@ pub fn box_holding(
 }
 
 /// The first box of a depth that begins after a byte, if there is one.
-pub fn box_behind(
+pub fn box_after(
     boxes: &BTreeMap<(u64, u64), u64>,
     depth: u64,
     byte: u64,

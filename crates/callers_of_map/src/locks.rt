@@ -46,7 +46,7 @@ pub fn lock_from(locks: &BTreeMap<u64, u64>, byte: u64) -> Option<(u64, u64)>
 
 /// The first lock that begins after a byte.
 #[tactic(auto, using(fc_laws::proofs::Laws::first_after_there, fc_laws::proofs::Laws::first_after_side, fc_laws::proofs::Laws::number_greater, fc_laws::proofs::Laws::number_total))]
-pub fn lock_behind(locks: &BTreeMap<u64, u64>, byte: u64) -> Option<(u64, u64)>
+pub fn lock_after(locks: &BTreeMap<u64, u64>, byte: u64) -> Option<(u64, u64)>
     ensures there { IfSome result (λ lock. at nat_cmp (entries locks.now) lock.0 ≡ Some lock) }
     ensures side { IfSome result (λ lock. byte < lock.0) }
     ensures first { result ≡ first_item (above nat_cmp (entries locks.now) byte) }

@@ -1,4 +1,4 @@
--- How a box lies in bytes, and what lies in a box. Numbers have their highest byte ahead.
+-- How a box lies in bytes, and what lies in a box. Numbers have their highest byte first.
 use Rattle.std.specs.Prelude.{ℕ, ◌+◌, ◌*◌, ◌≤◌, ◌==◌, nat_lt, if◌then◌else◌, List, length, take, drop, map, unwrap_or}
 use Rattle.std.specs.List.{position}
 use Rattle.std.specs.Int.{w32, w64, from_be_bytes}
@@ -12,7 +12,7 @@ module _ (bytes : List ℕ) where
   abbrev pub number64 : ℕ
   number64 = from_be_bytes w64 (take 8 bytes)
 
--- A box begins with its length and its kind. A length of 1 stands for the one of eight bytes behind the kind, and 0 for all that is left.
+-- A box begins with its length and its kind. A length of 1 stands for the one of eight bytes after the kind, and 0 for all that is left.
 module _ (bytes : List ℕ) where
   abbrev pub front_size : ℕ
   front_size = if number32 bytes == 1 then 16 else 8
@@ -39,7 +39,7 @@ module _ (bytes : List ℕ) where
   abbrev pub text_of : List ℕ
   text_of = take (unwrap_or (position (λ b. b == 0) bytes) (length bytes)) bytes
 
--- The number of a track stands behind a version, with flags, and two times, which take four bytes each in version 0 and else eight.
+-- The number of a track stands after a version, with flags, and two times, which take four bytes each in version 0 and else eight.
 module _ (content : List ℕ) where
   abbrev pub times_size : ℕ
   times_size = if nat_lt (number32 content) 16777216 then 8 else 16

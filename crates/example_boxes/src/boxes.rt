@@ -1,4 +1,4 @@
-//! Boxes, one behind the other, none of which is longer than what is left of the bytes that hold it.
+//! Boxes, one after the other, none of which is longer than what is left of the bytes that hold it.
 ghost use Rattle.std.specs.Prelude.{◌≡◌, ◌+◌, ◌<◌, ◌≤◌, ◌⊎◌, ◌↔◌, take, drop, length, IfOk, OnOk, IfErr, IsOk, IsErrOf};
 ghost use Rattle.example_boxes.specs.Layout.{front_size, box_length, kind_of, HasBox};
 
@@ -51,7 +51,7 @@ pub fn front_in(bytes: &[u8]) -> Result<Front, Error>
     Ok(Front { size, length, kind })
 }
 
-/// The box that the bytes begin with, and the bytes behind it.
+/// The box that the bytes begin with, and the bytes after it.
 ///
 /// # Errors
 /// `Truncated` where not all of the box is there, and `BadSize` where it claims fewer bytes than its front takes.
@@ -74,7 +74,7 @@ pub fn split_box(bytes: &[u8]) -> Result<(Found<'_>, &[u8]), Error>
     Ok((Found { kind, content }, rest))
 }
 
-/// A walk over boxes that stand one behind the other. Behind an error there is nothing.
+/// A walk over boxes that stand one after the other. After an error there is nothing.
 #[derive(Drop)]
 pub struct Boxes<'a> {
     rest: &'a [u8],

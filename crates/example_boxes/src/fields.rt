@@ -1,4 +1,4 @@
-//! What stands at the front of bytes, and the bytes behind it.
+//! What stands at the front of bytes, and the bytes after it.
 ghost use Rattle.std.specs.Prelude.{◌≡◌, ◌+◌, ◌<◌, take, drop, length, IfOk, IfErr};
 ghost use Rattle.example_boxes.specs.Layout.{number32, number64};
 

@@ -1,7 +1,7 @@
 //! Small files, as bytes: a whole one, and some that nobody should believe.
 
-/// Two tracks, the first with a table of lengths, the second with one length for all; and behind them what they consist of, with a length of eight bytes. A box
-/// ends behind what is read of it.
+/// Two tracks, the first with a table of lengths, the second with one length for all; and after them what they consist of, with a length of eight bytes. A box
+/// ends after what is read of it.
 pub const WHOLE: &[u8] = b"\
     \0\0\0\x10ftypisom\0\0\x02\0\
     \0\0\x01\x3amoov\
@@ -37,7 +37,7 @@ pub const SHORT: &[u8] = b"\
 pub const HUGE: &[u8] = b"\
     \0\0\0\x01mdat\x80\0\0\0\0\0\0\0";
 
-/// A track that is longer than the movie that holds it, by the box behind this.
+/// A track that is longer than the movie that holds it, by the box after this.
 pub const INNER: &[u8] = b"\
     \0\0\0\x10moov\
       \0\0\0\x10trak\

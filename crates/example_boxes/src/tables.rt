@@ -83,7 +83,7 @@ pub fn text_in(alloc: Global, bytes: &[u8]) -> Result<TryVec<u8>, Error>
     Ok(TryVec::try_from_slice(alloc, text)?)
 }
 
-// The bytes in front of the first that is 0, or all of them.
+// The bytes before the first that is 0, or all of them.
 fn front_of(bytes: &[u8]) -> &[u8]
     ensures { result.now ≡ text_of bytes.now }
 {

@@ -111,7 +111,7 @@ fn read_field(alloc: Global, found: Found<'_>, track: &mut Track) -> Result<(), 
     Ok(())
 }
 
-// The number of a track stands behind a version and two times, which take four bytes each in version 0, and eight else.
+// The number of a track stands after a version and two times, which take four bytes each in version 0, and eight else.
 fn number_in(content: &[u8]) -> Result<u32, Error>
     ensures number { IfOk result (λ number. number ≡ track_number content.now) }
     ensures error { IfErr result (λ e. (e ≡ Error.Truncated) × (length content.now < 8 + times_size content.now)) }

@@ -66,7 +66,7 @@ fn entry(text: &str) -> Option<(u64, u64, u64)> {
     Some((number(key)?, number(value)?, number(cost)?))
 }
 
-// Writes a value behind a text, if there is one.
+// Writes a value after a text, if there is one.
 fn write_value<W: Write>(said: &str, value: Option<u64>, out: &mut W) -> io::Result<()> {
     match value {
         Some(value) => writeln!(out, "{said}{value}"),

@@ -87,7 +87,7 @@ fn four(text: &str) -> Option<(u64, u64, u64, u64)> {
     Some((number(first)?, number(second)?, third, fourth))
 }
 
-// Writes a part behind a text.
+// Writes a part after a text.
 fn write_part<W: Write>(said: &str, part: &Keyed<u64, u64, u64>, out: &mut W) -> io::Result<()> {
     writeln!(out, "{said}{} {} {}", part.first, part.second, part.value)
 }

@@ -40,17 +40,46 @@ fn answer<W: Write>(map: &mut Intervals, text: &str, out: &mut W) -> io::Result<
     let (word, rest) = text.split_once(' ').unwrap_or((text, ""));
     match (word, interval(rest), number(rest)) {
         ("put", Some((start, end, _)), _) if end <= start => writeln!(out, "empty interval"),
-        ("put", Some((start, end, value)), _) => match put(map, start, end, value) {
-            Ok(()) => writeln!(out, "ok"),
-            Err(_) => writeln!(out, "out of memory"),
-        },
+        ("put", Some((start, end, value)), _) => done(put(map, start, end, value), out),
         ("at", _, Some(point)) => match map.get(point) {
             Some(value) => writeln!(out, "{value}"),
             None => writeln!(out, "none"),
         },
         _ if text == "list" => list(map, out),
+        _ => answer_of_range(map, word, rest, out),
+    }
+}
+
+// The same of a command on a range of points that has no value, or on a point where an interval is cut in two.
+fn answer_of_range<W: Write>(
+    map: &mut Intervals,
+    word: &str,
+    rest: &str,
+    out: &mut W,
+) -> io::Result<()> {
+    match (word, range(rest), number(rest)) {
+        ("cut", Some((start, end)), _) => done(map.cut(start..end), out),
+        ("split", _, Some(point)) => done(map.split_at(point), out),
+        ("join", _, Some(point)) if map.join_at(point) => writeln!(out, "joined"),
+        ("join", _, Some(_)) => writeln!(out, "apart"),
+        ("over", Some((start, end)), _) => list_over(map, start, end, out),
+        ("gaps", Some((start, end)), _) => list_gaps(map, start, end, out),
         _ => writeln!(out, "bad line"),
     }
+}
+
+// Tells whether a call was refused.
+fn done<W: Write>(answer: Result<(), TryReserveError>, out: &mut W) -> io::Result<()> {
+    match answer {
+        Ok(()) => writeln!(out, "ok"),
+        Err(_) => writeln!(out, "out of memory"),
+    }
+}
+
+// Two numbers: where a range starts and ends.
+fn range(text: &str) -> Option<(u64, u64)> {
+    let (start, end) = text.split_once(' ')?;
+    Some((number(start)?, number(end)?))
 }
 
 // Three numbers: where an interval starts and ends, and the value of its points.
@@ -77,4 +106,24 @@ fn list<W: Write>(map: &Intervals, out: &mut W) -> io::Result<()> {
         writeln!(out, "{start} {} {}", stretch.end, stretch.value)?;
     }
     Ok(())
+}
+
+// Writes the intervals that have a point of a range, in order, and then how many they are.
+fn list_over<W: Write>(map: &Intervals, start: u64, end: u64, out: &mut W) -> io::Result<()> {
+    let mut count = 0u64;
+    for (start, stretch) in map.overlapping(start..end) {
+        writeln!(out, "{start} {} {}", stretch.end, stretch.value)?;
+        count = count.wrapping_add(1);
+    }
+    writeln!(out, "over: {count}")
+}
+
+// Writes the parts of a range in which no point has a value, in order, and then how many they are.
+fn list_gaps<W: Write>(map: &Intervals, start: u64, end: u64, out: &mut W) -> io::Result<()> {
+    let mut count = 0u64;
+    for gap in map.gaps(start..end) {
+        writeln!(out, "{} {}", gap.start, gap.end)?;
+        count = count.wrapping_add(1);
+    }
+    writeln!(out, "gaps: {count}")
 }

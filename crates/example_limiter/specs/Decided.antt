@@ -12,7 +12,7 @@ abbrev pub times_of : Option (Vector ℕ) → List ℕ
 times_of None = []
 times_of (Some times) = times.items
 
--- The times that are kept of a client, the oldest ahead.
+-- The times that are kept of a client, the oldest first.
 abbrev pub kept : Limits → ℕ → List ℕ
 kept limits client = times_of (hashed_value_at nat_eq client limits.clients)
 
@@ -24,7 +24,7 @@ is_recent window now time = nat_lt (now - time) window
 abbrev pub recent : Limits → ℕ → ℕ → List ℕ
 recent limits client now = filter (is_recent limits.window now) (kept limits client)
 
--- Allowed, with its time behind the recent ones, where these are fewer than the limit; else denied. The others are forgotten.
+-- Allowed, with its time after the recent ones, where these are fewer than the limit; else denied. The others are forgotten.
 abbrev pub IsDecided : List ℕ → ℕ → ℕ → Bool → List ℕ → Type 0
 IsDecided times limit now true new = (length times < limit) × (new ≡ times ++ now ∷ [])
 IsDecided times limit now false new = (limit ≤ length times) × (new ≡ times)

@@ -1,4 +1,4 @@
--- The last stretch that starts before a byte and goes on behind another, and who holds the bytes from there on.
+-- The last stretch that starts before a byte and goes on after another, and who holds the bytes from there on.
 use Rattle.std.proofs.Common.{◌≡◌, ◌∙◌, ℕ, ◌≤◌, ◌<◌, ◌⊎◌, inl, inr, true, List, None, Some, refl, sym, ap, subst, arith}
 use Rattle.std.specs.Option.{option_map}
 use Rattle.std.specs.Ordering.{nat_cmp, is_lt}
@@ -20,8 +20,8 @@ module _ (held : List (ℕ × (ℕ × ℕ))) (a : AreApart held) (from b : ℕ) 
   passes : (s : ℕ) → s < b → is_lt (nat_cmp s b) ≡ true
   passes s l = ap is_lt ((number_less s b).1 l)
 
-  ahead : (s : ℕ) → is_lt (nat_cmp s b) ≡ true → s < b
-  ahead s h = (number_less s b).0 (go (nat_cmp s b) h)
+  before : (s : ℕ) → is_lt (nat_cmp s b) ≡ true → s < b
+  before s h = (number_less s b).0 (go (nat_cmp s b) h)
     where
       go : (r : Ordering) → is_lt r ≡ true → r ≡ Less
       go Less h = refl
@@ -38,7 +38,7 @@ module _ (held : List (ℕ × (ℕ × ℕ))) (a : AreApart held) (from b : ℕ) 
   pub last_some : (last : ℕ × (ℕ × ℕ)) → Some last ≡ last_item (below nat_cmp held b) → from < last.1.0 → IsLastIn held from b last
   last_some last found l = record {
     there = there last found;
-    ahead = ahead last.0 (last_passes nat_cmp (λ k. is_lt (nat_cmp k b)) held last (sym found));
+    before = before last.0 (last_passes nat_cmp (λ k. is_lt (nat_cmp k b)) held last (sym found));
     reaches = l;
     greatest = greatest last found;
   }
@@ -60,8 +60,8 @@ module _ (held : List (ℕ × (ℕ × ℕ))) (a : AreApart held) (from b : ℕ) 
 
 module _ (held : List (ℕ × (ℕ × ℕ))) (a : AreApart held) (from b : ℕ) (last : ℕ × (ℕ × ℕ)) (l : IsLastIn held from b last) where
   -- Who holds a byte from there on up to the limit is the owner of that stretch.
-  pub owner_behind : (p o : ℕ) → last.0 ≤ p → p < b → Lies held p o → (p < last.1.0) × (o ≡ last.1.1)
-  owner_behind p o f t m = go (cases_order m.start last.0)
+  pub owner_after : (p o : ℕ) → last.0 ≤ p → p < b → Lies held p o → (p < last.1.0) × (o ≡ last.1.1)
+  owner_after p o f t m = go (cases_order m.start last.0)
     where
       go : (m.start ≡ last.0) ⊎ ((m.start < last.0) ⊎ (last.0 < m.start)) → (p < last.1.0) × (o ≡ last.1.1)
       go (inl q) =
@@ -80,7 +80,7 @@ module _ (held : List (ℕ × (ℕ × ℕ))) (a : AreApart held) (start end owne
   own_from last l same p f t o h = go (cases_lt p b)
     where
       go : (p < b) ⊎ (b ≤ p) → o ≡ owner
-      go (inl n) = let q = owner_behind held a start b last l p o f n (lies held a p o h) in q.1 ∙ same
+      go (inl n) = let q = owner_after held a start b last l p o f n (lies held a p o h) in q.1 ∙ same
       go (inr n) = own p n t o h
 
   -- So are all bytes of the range where no stretch is left.

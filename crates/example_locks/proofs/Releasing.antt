@@ -3,7 +3,7 @@ use Rattle.std.proofs.Common.{◌≡◌, ◌∙◌, ℕ, ◌≤◌, ◌<◌, ◌
 use Rattle.std.proofs.lemmas.Bool.{cases_lt, ne_eqb}
 use Rattle.example_locks.specs.Held.{holder_of, without, IsIn, AreApart, StopAt, IsLastIn, IsReleased}
 use Rattle.example_locks.proofs.Holders.{nobody}
-use Rattle.example_locks.proofs.Lasts.{owner_behind, holds_from}
+use Rattle.example_locks.proofs.Lasts.{owner_after, holds_from}
 
 -- Another owner's byte stays, and nothing is given up twice.
 pub without_other : (owner other : ℕ) → ¬ (other ≡ owner) → without owner (Some other) ≡ Some other
@@ -37,7 +37,7 @@ module _ (old cur new : List (ℕ × (ℕ × ℕ))) (start end owner b : ℕ) (l
 
   -- between its end and the limit nobody holds a byte
   empty : (p : ℕ) → last.1.0 ≤ p → last.0 ≤ p → p < b → holder_of cur p ≡ None
-  empty p f g t = nobody cur r.apart p (λ o m. let q = owner_behind cur r.apart start b last l p o g t m in absurd (omega (arith, q.0)))
+  empty p f g t = nobody cur r.apart p (λ o m. let q = owner_after cur r.apart start b last l p o g t m in absurd (omega (arith, q.0)))
 
   inside : (p : ℕ) → max start last.0 ≤ p → p < end → holder_of new p ≡ without owner (holder_of old p)
   inside p f t = go (cases_lt p last.1.0) (cases_lt p b)
@@ -50,25 +50,25 @@ module _ (old cur new : List (ℕ × (ℕ × ℕ))) (start end owner b : ℕ) (l
           s.outside p (inr n) ∙ none ∙ sym (ap (without owner) (sym (r.outside p (inl (omega arith))) ∙ none))
       go (inr n) (inr m) = s.outside p (inr n) ∙ r.inside p (omega arith) t
 
-  -- what it holds behind the end of the range is another owner's
+  -- what it holds after the end of the range is another owner's
   kept : (p : ℕ) → end ≤ p → p < last.1.0 → without owner (holder_of cur p) ≡ holder_of cur p
-  kept p f t = go (holds_from cur r.apart start b last l p (omega (arith, l.ahead)) t)
+  kept p f t = go (holds_from cur r.apart start b last l p (omega (arith, l.before)) t)
     where
       other : last.1.1 ≡ owner → ⊥
       other q =
           let v = r.within last.0 last.1 l.there in
-          let c = stop last.0 v.0 (subst (λ o. IsIn old last.0 (v.0, o)) q v.2) (omega (arith, l.ahead)) in
+          let c = stop last.0 v.0 (subst (λ o. IsIn old last.0 (v.0, o)) q v.2) (omega (arith, l.before)) in
           absurd (omega (arith, v.1))
 
       go : holder_of cur p ≡ Some last.1.1 → without owner (holder_of cur p) ≡ holder_of cur p
       go q = ap (without owner) q ∙ without_other owner last.1.1 other ∙ sym q
 
   outside : (p : ℕ) → (p < max start last.0) ⊎ (end ≤ p) → holder_of new p ≡ holder_of old p
-  outside p (inl n) = s.outside p (inl n) ∙ r.outside p (inl (omega (arith, l.ahead)))
+  outside p (inl n) = s.outside p (inl n) ∙ r.outside p (inl (omega (arith, l.before)))
   outside p (inr n) = go (cases_lt p last.1.0)
     where
       go : (p < last.1.0) ⊎ (last.1.0 ≤ p) → holder_of new p ≡ holder_of old p
-      go (inl m) = s.inside p (omega (arith, l.ahead)) m ∙ kept p n m ∙ r.outside p (inr n)
+      go (inl m) = s.inside p (omega (arith, l.before)) m ∙ kept p n m ∙ r.outside p (inr n)
       go (inr m) = s.outside p (inr m) ∙ r.outside p (inr n)
 
   pub released_more : IsReleased old new (max start last.0) end owner

@@ -24,7 +24,7 @@ WasEnded old s at o t y = ((t ≡ s) × (s < at) × (y ≡ (at, o))) ⊎ (((t < 
 module _ (old : List (ℕ × (ℕ × ℕ))) (a : AreApart old) where
   -- One stretch is put where nobody holds a byte.
   module _ (c h o : ℕ) (some : c < h) (free : (b : ℕ) → c ≤ b → b < h → holder_of old b ≡ None) where
-    -- the others end ahead of it or start behind it
+    -- the others end before it or start after it
     beside : (t : ℕ) (y : ℕ × ℕ) → IsIn old t y → (y.0 ≤ c) ⊎ (h ≤ t)
     beside t y i = go (cases_lt c y.0) (cases_lt t h)
       where
@@ -36,8 +36,8 @@ module _ (old : List (ℕ × (ℕ × ℕ))) (a : AreApart old) where
             let is = holds old a (max c t) y.1 (record { start = t; end = y.0; there = i; from = omega arith; to = omega arith }) in
             let not : None ≡ Some y.1 = sym (free (max c t) (omega arith) (omega arith)) ∙ is in absurd cc
 
-    ahead : (t : ℕ) (y : ℕ × ℕ) → IsIn (put nat_cmp old c (h, o)) t y → WasPut old c (h, o) t y
-    ahead t y i = go (value_before_put nat_cmp old c (h, o) t y number_total i)
+    before : (t : ℕ) (y : ℕ × ℕ) → IsIn (put nat_cmp old c (h, o)) t y → WasPut old c (h, o) t y
+    before t y i = go (value_before_put nat_cmp old c (h, o) t y number_total i)
       where
         go : ((nat_cmp t c ≡ Equal) × (y ≡ (h, o))) ⊎ (¬ (nat_cmp t c ≡ Equal) × IsIn old t y) → WasPut old c (h, o) t y
         go (inl e) = inl ((number_equal t c).0 e.0, e.1)
@@ -71,8 +71,8 @@ module _ (old : List (ℕ × (ℕ × ℕ))) (a : AreApart old) where
     pub put_apart : AreApart (put nat_cmp old c (h, o))
     put_apart = record {
       ascending = ascending_put nat_cmp old c (h, o) number_total a.ascending;
-      whole = λ t y i. whole t y (ahead t y i);
-      apart = λ s t x y i j l. apart s t x y (ahead s x i) (ahead t y j) l;
+      whole = λ t y i. whole t y (before t y i);
+      apart = λ s t x y i j l. apart s t x y (before s x i) (before t y j) l;
     }
 
     pub put_inside : (b : ℕ) → c ≤ b → b < h → holder_of (put nat_cmp old c (h, o)) b ≡ Some o
@@ -82,7 +82,7 @@ module _ (old : List (ℕ × (ℕ × ℕ))) (a : AreApart old) where
     pub put_outside : (b : ℕ) → (b < c) ⊎ (h ≤ b) → holder_of (put nat_cmp old c (h, o)) b ≡ holder_of old b
     put_outside b out = same old (put nat_cmp old c (h, o)) a put_apart b
         (λ p l. record { start = l.start; end = l.end; there = stays _ _ l.there; from = l.from; to = l.to })
-        (λ p l. back p l (ahead _ _ l.there) out)
+        (λ p l. back p l (before _ _ l.there) out)
       where
         back : (p : ℕ) (l : Lies (put nat_cmp old c (h, o)) b p) → WasPut old c (h, o) l.start (l.end, p) → (b < c) ⊎ (h ≤ b)
             → Lies old b p
@@ -90,7 +90,7 @@ module _ (old : List (ℕ × (ℕ × ℕ))) (a : AreApart old) where
         back p l (inl e) (inr n) = let f = ap (λ z. z.0) e.1 in absurd (omega (arith, l.to))
         back p l (inr i) n = record { start = l.start; end = l.end; there = i; from = l.from; to = l.to }
 
-  -- The stretch at s is ended at a byte, or taken out where it starts there or behind it.
+  -- The stretch at s is ended at a byte, or taken out where it starts there or after it.
   module _ (new : List (ℕ × (ℕ × ℕ))) (ascending : IsAscending nat_cmp new) (s e o at : ℕ) (there : IsIn old s (e, o)) (reaches : at < e)
       (other : (t : ℕ) → ¬ (nat_cmp t s ≡ Equal) → value_at nat_cmp new t ≡ value_at nat_cmp old t)
       (here : (y : ℕ × ℕ) → IsIn new s y → (s < at) × (y ≡ (at, o))) (front : s < at → IsIn new s (at, o)) where
@@ -175,7 +175,7 @@ module _ (old : List (ℕ × (ℕ × ℕ))) (a : AreApart old) where
       outside = kept;
     }
 
-  -- What an owner gives up of a stretch that starts at s: all of it, or what is behind a byte.
+  -- What an owner gives up of a stretch that starts at s: all of it, or what is after a byte.
   module _ (s : ℕ) (x : ℕ × ℕ) (owner at : ℕ) (there : IsIn old s x) (same : x.1 ≡ owner) (reaches : at < x.0) where
     theirs : IsIn old s (x.0, owner)
     theirs = subst (λ o. IsIn old s (x.0, o)) same there

@@ -1,4 +1,4 @@
--- Stretches of bytes that are held, by their starts: each with its end, which is the first byte behind it, and its owner.
+-- Stretches of bytes that are held, by their starts: each with its end, which is the first byte after it, and its owner.
 use Rattle.std.specs.Prelude.{◌≡◌, ◌≢◌, ℕ, ◌<◌, ◌≤◌, ◌⊎◌, ◌&&◌, Bool, cond, List, find, Option, None, Some, nat_eq, nat_le, nat_lt}
 use Rattle.std.specs.Option.{option_map}
 use Rattle.std.specs.Ordering.{nat_cmp}
@@ -31,14 +31,14 @@ without owner (Some other) = cond (nat_eq other owner) None (Some other)
 abbrev pub IsHeldBy : List (ℕ × (ℕ × ℕ)) → ℕ → ℕ → ℕ → ℕ → Type 0
 IsHeldBy held start end owner other = (other ≢ owner) × (byte : ℕ) × (start ≤ byte) × (byte < end) × (holder_of held byte ≡ Some other)
 
--- The owner's stretches that start before a byte don't go on behind it.
+-- The owner's stretches that start before a byte don't go on after it.
 abbrev pub StopAt : List (ℕ × (ℕ × ℕ)) → ℕ → ℕ → Type 0
 StopAt held owner byte = (s e : ℕ) → IsIn held s (e, owner) → s < byte → e ≤ byte
 
--- The last stretch that starts before the byte `below`, which goes on behind `from`.
+-- The last stretch that starts before the byte `below`, which goes on after `from`.
 pub record IsLastIn (held : List (ℕ × (ℕ × ℕ))) (from below : ℕ) (last : ℕ × (ℕ × ℕ)) : Type 0 where
   pub there : IsIn held last.0 last.1
-  pub ahead : last.0 < below
+  pub before : last.0 < below
   pub reaches : from < last.1.0
   pub greatest : (s : ℕ) (x : ℕ × ℕ) → IsIn held s x → s < below → s ≤ last.0
 

@@ -10,7 +10,7 @@ IsNotLocked held start end owner Empty = end ≤ start
 IsNotLocked held start end owner (Held other) = IsHeldBy held start end owner other
 IsNotLocked held start end owner (Memory e) = start < end
 
--- Nothing was given up: there is no byte in the range, or memory was refused for what the owner holds behind it.
+-- Nothing was given up: there is no byte in the range, or memory was refused for what the owner holds after it.
 abbrev pub IsNotUnlocked : List (ℕ × (ℕ × ℕ)) → ℕ → ℕ → ℕ → Refusal → Type 0
 IsNotUnlocked held start end owner Empty = end ≤ start
 IsNotUnlocked held start end owner (Held other) = ⊥

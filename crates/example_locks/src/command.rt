@@ -2,7 +2,7 @@
 
 use bounded_lines::{Line, number};
 
-/// What a line asks for: the first byte of a range, the first behind it, and an owner.
+/// What a line asks for: the first byte of a range, the first after it, and an owner.
 #[derive(Clone, Copy)]
 pub enum Command {
     Lock(u64, u64, u64),

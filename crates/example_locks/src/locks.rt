@@ -69,7 +69,7 @@ impl Locks {
             return Err(Refusal::Held(other));
         }
         let from = stretches::reach_before(&self.held, start, owner);
-        let to = stretches::reach_behind(&self.held, end, owner);
+        let to = stretches::reach_after(&self.held, end, owner);
         match stretches::rewrite(&mut self.held, from, from, to, owner) {
             Ok(()) => Ok(()),
             Err(refused) => Err(Refusal::Memory(refused)),
@@ -77,7 +77,7 @@ impl Locks {
     }
 
     /// Takes the bytes from `start` up to, and without, `end` from an owner; what others hold among them they keep. A stretch that goes on on both sides is
-    /// split. It takes memory just where a stretch of the owner goes on behind `end`.
+    /// split. It takes memory just where a stretch of the owner goes on after `end`.
     ///
     /// # Errors
     /// `Empty` where there are no such bytes, and `Memory` where memory for one stretch was refused. The table is then as it was.
@@ -90,7 +90,7 @@ impl Locks {
         if end <= start {
             return Err(Refusal::Empty);
         }
-        let to = stretches::reach_behind(&self.held, end, owner);
+        let to = stretches::reach_after(&self.held, end, owner);
         match stretches::rewrite(&mut self.held, start, end, to, owner) {
             Ok(()) => Ok(()),
             Err(refused) => Err(Refusal::Memory(refused)),

@@ -10,7 +10,7 @@ use fallible_collections::btree::BTreeMap;
 /// The stretches of a table: by the start of each its end and its owner.
 pub type Stretches = BTreeMap<u64, (u64, u64)>;
 
-// The last stretch that starts before the byte `below`, where it goes on behind `from`.
+// The last stretch that starts before the byte `below`, where it goes on after `from`.
 fn last_in(held: &Stretches, from: u64, below: u64) -> Option<(u64, (u64, u64))>
     requires { AreApart (entries held.now) }
     ensures some { IfSome result (IsLastIn (entries held.now) from below) }
@@ -56,7 +56,7 @@ pub fn reach_before(held: &Stretches, start: u64, owner: u64) -> u64
 }
 
 /// Up to where the owner holds all bytes from `end` on: where the stretch ends that holds it, or `end` itself.
-pub fn reach_behind(held: &Stretches, end: u64, owner: u64) -> u64
+pub fn reach_after(held: &Stretches, end: u64, owner: u64) -> u64
     requires { AreApart (entries held.now) }
     ensures order { end ≤ result }
     ensures held { (byte : ℕ) → end ≤ byte → byte < result → holder_of (entries held.now) byte ≡ Some owner }
@@ -68,7 +68,7 @@ pub fn reach_behind(held: &Stretches, end: u64, owner: u64) -> u64
     if holder == owner { reach } else { end }
 }
 
-/// Takes the bytes from `start` up to, and without, `end` from the owner, whose stretches don't go on behind `end`. It takes no memory.
+/// Takes the bytes from `start` up to, and without, `end` from the owner, whose stretches don't go on after `end`. It takes no memory.
 pub fn release(held: &mut Stretches, start: u64, end: u64, owner: u64)
     requires apart { AreApart (entries held.old) }
     requires stops { StopAt (entries held.old) owner end }
@@ -112,7 +112,7 @@ fn end_at(held: &mut Stretches, at: u64, end: u64, owner: u64)
     }
 }
 
-/// Takes the bytes from `start` up to, and without, `kept` from the owner, whose stretches don't go on behind `end`, and gives all from `kept` up to `end`,
+/// Takes the bytes from `start` up to, and without, `kept` from the owner, whose stretches don't go on after `end`, and gives all from `kept` up to `end`,
 /// which no other holds, to the owner as one stretch.
 ///
 /// # Errors

@@ -21,7 +21,7 @@ impl Header {
     }
 }
 
-/// The front that eight bytes are: a length with its highest byte ahead, and the type. `None` where there are not eight.
+/// The front that eight bytes are: a length with its highest byte first, and the type. `None` where there are not eight.
 pub fn header_in(bytes: &[u8]) -> Option<Header>
     ensures { MatchOption result (length bytes.now ≢ 8)
         (λ h. (h.length ≡ from_be_bytes w32 (take 4 bytes.now)) × (h.kind ≡ drop 4 bytes.now)) }

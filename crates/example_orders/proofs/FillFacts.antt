@@ -42,7 +42,7 @@ module _ (limit w : ℕ) where
   pub no_more : (s : Orders) → w ≤ 0 → (after_fills limit w s ≡ s) × (unfilled limit w s ≡ w)
   no_more s l = let z : w ≡ 0 = omega arith in subst (λ n. (after_fills limit n s ≡ s) × (unfilled limit n s ≡ n)) (sym z) (none_wanted limit s)
 
-  -- The first fill, and those that come behind it.
+  -- The first fill, and those that come after it.
   pub next_fill : (s : Orders) (fill : Fill) → 0 < w → best_fill limit w s ≡ Some fill
       → fills_of limit w s ≡ fill ∷ fills_of limit (w - fill.quantity) (after_fill limit w s)
   next_fill [] fill p e = cc

@@ -8,7 +8,7 @@ use Rattle.example_orders.specs.declared.ladder.Fill.{Fill}
 abbrev pub fill_from : ℕ → (ℕ × ℕ) × ℕ → Fill
 fill_from wanted o = record { key = o.0; quantity = if nat_lt wanted o.1 then wanted else o.1 }
 
--- The fill by the first of them; none where its rank is beyond the limit.
+-- The fill by the first of them; none where its rank is above the limit.
 abbrev pub best_fill : ℕ → ℕ → Orders → Option Fill
 best_fill limit wanted [] = None
 best_fill limit wanted (o ∷ os) = if nat_lt limit o.0.0 then None else Some (fill_from wanted o)

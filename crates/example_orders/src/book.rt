@@ -99,7 +99,7 @@ impl Book {
         }
     }
 
-    /// A walk over the orders of one side, the best ahead. The book is not crossed: no bid meets an ask.
+    /// A walk over the orders of one side, the best first. The book is not crossed: no bid meets an ask.
     pub fn iter(&self, side: Side) -> Iter<'_, Key, u64>
         ensures orders { result ≡ orders_of side self.now }
         ensures not_empty { All (λ o. 0 < o.1) result }

@@ -50,7 +50,7 @@ impl Ladder {
         }
     }
 
-    /// A walk over the orders, the best ahead.
+    /// A walk over the orders, the best first.
     pub fn iter(&self) -> Iter<'_, Key, u64>
         ensures orders { result ≡ self.now }
         ensures not_empty { All (λ o. 0 < o.1) result }
@@ -110,7 +110,7 @@ impl Ladder {
         ensures left { result ≡ unfilled limit wanted self.old }
         ensures at_most { result ≤ wanted }
         ensures rest { self.new ≡ after_fills limit wanted self.old }
-        ensures beyond { 0 < result → All (λ o. limit < o.0.0) self.new }
+        ensures above { 0 < result → All (λ o. limit < o.0.0) self.new }
     {
         let mut left = wanted;
         while left > 0 {

@@ -1,14 +1,14 @@
 -- The laws of lists of pairs and of items, for a crate that names `fallible_collections` alone.
 pub use Rattle.fc_base.proofs.Laws.{at_equal, value_at_equal, cut_equal, at_put, value_at_put, value_at_put_equal, at_put_other, value_at_put_other, at_cut}
 pub use Rattle.fc_base.proofs.Laws.{at_cut_other, value_at_cut_other, ascending_put, ascending_cut, parts_joined, cut_absent, cut_put, cut_put_new}
-pub use Rattle.fc_base.proofs.Laws.{cut_put_equal, length_cut_there, length_cut_absent, length_put_there, length_put_new, smaller_ahead, ascending_front}
+pub use Rattle.fc_base.proofs.Laws.{cut_put_equal, length_cut_there, length_cut_absent, length_put_there, length_put_new, smaller_before, ascending_front}
 pub use Rattle.fc_base.proofs.Laws.{ascending_back, at_between, cut_between, first_is_least, last_is_greatest, ascending_rest, ascending_lead, at_first}
 pub use Rattle.fc_base.proofs.Laws.{at_last, cut_first, cut_last, at_query, value_at_query, value_at_put_query, at_put_other_query, value_at_put_other_query}
 pub use Rattle.fc_base.proofs.Laws.{put_by_query, cut_query, within_all, within_bounds, ascending_within, places_are_within}
-pub use Rattle.fc_base.proofs.JoinedLaws.{halves_joined, placed_behind, joined_behind, joined_halves, ascending_joined}
+pub use Rattle.fc_base.proofs.JoinedLaws.{halves_joined, placed_after, joined_after, joined_halves, ascending_joined}
 pub use Rattle.fc_set.proofs.OperationLaws.{lengths, in_common, difference_at_least, difference_at_most, common_at_most, union_at_least, union_at_most}
 pub use Rattle.fc_set.proofs.OperationLaws.{symmetric_at_most}
-pub use Rattle.fc_tree_merge.proofs.StableLaws.{same_pairs, extended_more, ascending_extended, extended_stable}
+pub use Rattle.fc_tree_append.proofs.StableLaws.{same_pairs, extended_more, ascending_extended, extended_stable}
 pub use Rattle.fc_map.proofs.VisitLaws.{visits_map, visited_whole}
 pub use Rattle.fc_laws.proofs.NeighbourLaws.{within_from, within_after, within_to, within_before, not_below_query, above_query, not_above_query, below_query}
 pub use Rattle.fc_laws.proofs.NeighbourLaws.{exact_pair, first_there, first_passes, first_least, first_none, last_there, last_passes, last_greatest, last_none}

@@ -19,7 +19,7 @@ use Rattle.fc_set.specs.Items.{item_at, AreAscending, joined_items}
 use Rattle.fc_set.specs.Operations.{difference, symmetric_difference, union}
 use Rattle.fc_set.proofs.ItemFacts.{keys, item_at_keys, joined_keys, ascending_keys}
 use Rattle.fc_set.proofs.SideFacts.{ascending_kept}
-use Rattle.fc_tree_merge.proofs.StableLaws.{same_pairs}
+use Rattle.fc_tree_append.proofs.StableLaws.{same_pairs}
 use Rattle.fc_laws.proofs.JoinedLaws.{at_joined_query}
 
 module _ {T : Type 0} where

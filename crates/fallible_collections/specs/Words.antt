@@ -37,7 +37,7 @@ pub use Rattle.fc_map.specs.Counts.{IsBounded}
 pub use Rattle.fc_map.specs.LendsKey.{path_in, lends_get, lent_value, written_at, lends_get_in}
 pub use Rattle.fc_map.specs.Full.{IsFullAt, TakesNode}
 pub use Rattle.fc_map.specs.Fewest.{fewest_moves, root_len, HasFewestMoves}
-pub use Rattle.fc_map.specs.Entry.{entry_map, entry_map_ref, entry_path, entry_key, entry_pair, entry_value, list_with, list_without, IsWritten, IsFirstOf, IsLastOf, IsFirstBehind, IsLastAhead, map_written, entry_lends_ok, occupied_lends, occupied_lends_whole, rests_if_none, rests_if_refused, entry_lends_ok_in, occupied_lends_in, occupied_lends_whole_in, rests_if_none_in, rests_if_refused_in}
+pub use Rattle.fc_map.specs.Entry.{entry_map, entry_map_ref, entry_path, entry_key, entry_pair, entry_value, list_with, list_without, IsWritten, IsFirstOf, IsLastOf, IsFirstAfter, IsLastBefore, map_written, entry_lends_ok, occupied_lends, occupied_lends_whole, rests_if_none, rests_if_refused, entry_lends_ok_in, occupied_lends_in, occupied_lends_whole_in, rests_if_none_in, rests_if_refused_in}
 pub use Rattle.fc_map.specs.ReadyEntry.{ready_map_ref, ready_map, ready_key, ready_list_with, ready_lends, rests_if_not_ready, ready_lends_in, rests_if_not_ready_in}
 pub use Rattle.fc_map.specs.Reservation.{Places, reservation_error}
 pub use Rattle.fc_map.specs.Walks.{deref_pair, keys_of, values_of}
@@ -46,7 +46,7 @@ pub use Rattle.fc_map.specs.Stretches.{range_map_ref, stretch, iter_map_ref, ite
 pub use Rattle.fc_tree_for_each.specs.Visits.{VisitsInTurn}
 pub use Rattle.fc_tree_retain.specs.Retained.{RetainsInTurn, AskedAtPair, GivenPair, ExtractsBy}
 pub use Rattle.fc_map.specs.PopIf.{AskedOnceAtPair, IsFirstNotPicked, IsLastNotPicked}
-pub use Rattle.fc_map.specs.Ranged.{in_front, behind, outside, replacing}
+pub use Rattle.fc_map.specs.Ranged.{before_range, after_range, outside, replacing}
 pub use Rattle.fc_map.specs.Compare.{pair_eq, pair_cmp, pair_partial_cmp, pair_input}
 pub use Rattle.fc_map.specs.CompareLaws.{pairs_Alike, pairs_agree, pairs_equiv, pairs_per, pairs_po, pairs_tie, pairs_total}
 -- sets
@@ -55,7 +55,7 @@ pub use Rattle.fc_set.specs.Neighbours.{not_greater}
 pub use Rattle.fc_set.specs.Retained.{RetainsItems, GivenItem, ExtractsItem}
 pub use Rattle.fc_set.specs.Copied.{MayCopyRefuse}
 pub use Rattle.fc_set.specs.HashLaws.{items_alike}
-pub use Rattle.fc_set.specs.Sides.{GivesCommon, begin_filtering, begin_with_shorter, past_item, filtered_past, sum_of_lengths, untaken}
+pub use Rattle.fc_set.specs.Sides.{GivesCommon, begin_filtering, begin_with_shorter, after_item, filtered_after, sum_of_lengths, untaken}
 pub use Rattle.fc_set.specs.Operations.{difference, common, symmetric_difference, intersection, union}
 -- commands
 pub use Rattle.fc_command.specs.Step.{IsNew, Step, Runs}

@@ -12,7 +12,7 @@ module _ {T : Type 0} (R : T → T → Type 0) where
   pub none_copied : (old xs : List T) → IsExtended R old (take 0 xs) old
   none_copied old xs = record { copies = []; copied = tt; is = sym (append-nil old) }
 
-  -- One more item was copied, and its copy put behind the others.
+  -- One more item was copied, and its copy put after the others.
   pub one_copied : (old xs mid new : List T) (i : ℕ) (x y : T) → i < length xs → x ≡ get_or xs i x → IsExtended R old (take i xs) mid → R x y
       → new ≡ mid ++ y ∷ [] → IsExtended R old (take (i + 1) xs) new
   one_copied old xs mid new i x y h e m r is = record {

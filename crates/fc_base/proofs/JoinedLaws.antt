@@ -1,4 +1,4 @@
--- The laws of a list that is cut in two, and of two lists joined where all keys of the second lie beyond those of the first.
+-- The laws of a list that is cut in two, and of two lists joined where all keys of the second lie after those of the first.
 use Rattle.std.proofs.Common.{◌≡◌, cond, List, [], ◌∷◌, ◌++◌, refl, sym, ap, ◌∙◌, subst, append-nil}
 use Rattle.std.specs.List.{AllByRecursion}
 use Rattle.std.specs.Cmp.{IsTotalOrder}
@@ -13,7 +13,7 @@ use Rattle.fc_base.specs.Joined.{placed, joined}
 use Rattle.fc_base.specs.Parts.{below}
 use Rattle.fc_base.specs.Query.{IsQueryOrder}
 use Rattle.fc_base.proofs.AscendingFacts.{all_map, asc_put, kept, left_out}
-use Rattle.fc_base.proofs.Laws.{smaller_ahead}
+use Rattle.fc_base.proofs.Laws.{smaller_before}
 
 module _ {K Q V : Type 0} (cmp : K → K → Ordering) (order : K → Q → Ordering) where
   -- An ascending list is what is below a query, and what is not.
@@ -27,20 +27,20 @@ module _ {K Q V : Type 0} (cmp : K → K → Ordering) (order : K → Q → Orde
       go : (r : Ordering) → order e.0 q ≡ r → below order s q ++ not_below order s q ≡ s
           → cond (is_lt r) (e ∷ below order s q) (below order s q) ++ cond (is_ge r) (e ∷ not_below order s q) (not_below order s q) ≡ e ∷ s
       go Less h i = ap (λ zs. e ∷ zs) i
-      go Equal h i = let n = none (all_map _ _ (λ x l. fits.past q e.0 x.0 l h) s a.0) in rw (n.0, n.1) refl
+      go Equal h i = let n = none (all_map _ _ (λ x l. fits.after q e.0 x.0 l h) s a.0) in rw (n.0, n.1) refl
       go Greater h i = let n = none (all_map _ _ (λ x l. fits.upper q e.0 x.0 l h) s a.0) in rw (n.0, n.1) refl
 
 module _ {K V : Type 0} (cmp : K → K → Ordering) where
-  -- A pair whose key lies beyond all keys of a list is placed at its end.
-  pub placed_behind : (s : List (K × V)) (e : K × V) → AllByRecursion (λ x. cmp x.0 e.0 ≡ Less) s → placed cmp s e ≡ s ++ e ∷ []
-  placed_behind s e less = rw (kept _ s (all_map _ _ (λ x h. ap is_lt h) s less), left_out _ s (all_map _ _ (λ x h. ap is_gt h) s less)) refl
+  -- A pair whose key lies after all keys of a list is placed at its end.
+  pub placed_after : (s : List (K × V)) (e : K × V) → AllByRecursion (λ x. cmp x.0 e.0 ≡ Less) s → placed cmp s e ≡ s ++ e ∷ []
+  placed_after s e less = rw (kept _ s (all_map _ _ (λ x h. ap is_lt h) s less), left_out _ s (all_map _ _ (λ x h. ap is_gt h) s less)) refl
 
-  -- Where all keys of the second list lie beyond those of the first, the two are joined end to end.
-  pub joined_behind : (front back : List (K × V)) → IsAscending cmp (front ++ back) → joined cmp front back ≡ front ++ back
-  joined_behind front [] a = sym (append-nil front)
-  joined_behind front (e ∷ back) a =
-      ap (λ s. joined cmp s back) (placed_behind front e (smaller_ahead cmp front back e a))
-      ∙ joined_behind (front ++ e ∷ []) back (subst (IsAscending cmp) (sym (append_assoc front (e ∷ []) back)) a)
+  -- Where all keys of the second list lie after those of the first, the two are joined end to end.
+  pub joined_after : (front back : List (K × V)) → IsAscending cmp (front ++ back) → joined cmp front back ≡ front ++ back
+  joined_after front [] a = sym (append-nil front)
+  joined_after front (e ∷ back) a =
+      ap (λ s. joined cmp s back) (placed_after front e (smaller_before cmp front back e a))
+      ∙ joined_after (front ++ e ∷ []) back (subst (IsAscending cmp) (sym (append_assoc front (e ∷ []) back)) a)
       ∙ append_assoc front (e ∷ []) back
 
   -- What a cut left and what it took out are joined to the list that there was.
@@ -48,7 +48,7 @@ module _ {K V : Type 0} (cmp : K → K → Ordering) where
       → joined cmp (below order s q) (not_below order s q) ≡ s
   joined_halves order s q fits a =
       let e = halves_joined cmp order s q fits a in
-      joined_behind (below order s q) (not_below order s q) (subst (IsAscending cmp) (sym e) a) ∙ e
+      joined_after (below order s q) (not_below order s q) (subst (IsAscending cmp) (sym e) a) ∙ e
 
   -- Where the first list ascends, so does what the two are joined to.
   pub ascending_joined : (s t : List (K × V)) → IsTotalOrder cmp → IsAscending cmp s → IsAscending cmp (joined cmp s t)

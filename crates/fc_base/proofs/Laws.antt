@@ -22,7 +22,7 @@ use Rattle.fc_base.specs.Parts.{below, above, at, value_at}
 use Rattle.fc_base.specs.Query.{IsQueryOrder}
 use Rattle.fc_base.specs.Viewed.{over_one, own_order}
 use Rattle.fc_base.specs.Ranges.{starts, stops, is_range, within}
-use Rattle.fc_base.proofs.Within.{between_tests, not_past}
+use Rattle.fc_base.proofs.Within.{between_tests, not_after}
 use Rattle.fc_base.proofs.AscendingFacts.{under_one, all_map, all_below, all_above, at_key, asc_filter, asc_cut, asc_put, is_equal, kept, left_out}
 
 -- filters and searches by a test
@@ -47,7 +47,7 @@ module _ {K : Type 0} (cmp : K → K → Ordering) where
   apart : (j k : K) → IsTotalOrder cmp → ¬ (cmp j k ≡ Equal) → ¬ (cmp k j ≡ Equal)
   apart j k total other e = other (total.antisymm j k ∙ ap ordering_reverse e)
 
-  -- Where a key is not in front of a range, no greater key is.
+  -- Where a key is not before a range, no greater key is.
   starts_on : IsTotalOrder cmp → (lo : Bound K) (x y : K) → cmp x y ≡ Less → starts cmp lo x ≡ true → starts cmp lo y ≡ true
   starts_on total Unbounded x y l h = refl
   starts_on total (Included a) x y l h = go (cmp x a) refl h
@@ -63,7 +63,7 @@ module _ {K : Type 0} (cmp : K → K → Ordering) where
       go Equal e h = absurd cc
       go Greater e h = ap is_gt (over_one cmp total a y (total.trans a x y (under_one cmp total a x e) l))
 
-  -- Where a key is behind a range, each greater key is.
+  -- Where a key is after a range, each greater key is.
   stops_on : IsTotalOrder cmp → (hi : Bound K) (x y : K) → cmp x y ≡ Less → stops cmp hi x ≡ false → stops cmp hi y ≡ false
   stops_on total Unbounded x y l h = absurd cc
   stops_on total (Included b) x y l h = go (cmp x b) refl h
@@ -107,12 +107,13 @@ module _ {K Q V : Type 0} (cmp : K → Q → Ordering) where
   passes p r k s a = all_map _ _ (λ e h. ap p h) s a
 
   -- nothing stands at k below it or above it
-  past : (s t : List (K × V)) (k : Q) → at cmp (below cmp s k ++ t) k ≡ at cmp t k
-  past s t k = find-append _ (below cmp s k) t ∙ ap (λ o. option_or o (at cmp t k)) (not_found _ (below cmp s k) (passes is_eq Less k _ (all_below cmp s k)))
+  over_below : (s t : List (K × V)) (k : Q) → at cmp (below cmp s k ++ t) k ≡ at cmp t k
+  over_below s t k = find-append _ (below cmp s k) t
+      ∙ ap (λ o. option_or o (at cmp t k)) (not_found _ (below cmp s k) (passes is_eq Less k _ (all_below cmp s k)))
 
   -- Nothing stands at a key whose pair was cut.
   pub at_cut : (s : List (K × V)) (k : Q) → at cmp (cut cmp s k) k ≡ None
-  at_cut s k = past s (above cmp s k) k ∙ not_found _ (above cmp s k) (passes is_eq Greater k _ (all_above cmp s k))
+  at_cut s k = over_below s (above cmp s k) k ∙ not_found _ (above cmp s k) (passes is_eq Greater k _ (all_above cmp s k))
 
 module _ {K Q V : Type 0} (cmp : K → K → Ordering) (order : K → Q → Ordering) where
   -- what stands at a query that k is not equal to is where it was, whatever stands between what is below and above k
@@ -175,7 +176,7 @@ module _ {K V : Type 0} (cmp : K → K → Ordering) where
   pub at_put : (s : List (K × V)) (k : K) (v : V) → IsTotalOrder cmp → at cmp (put cmp s k v) k ≡ Some (unwrap_or (option_map (λ e. e.0) (at cmp s k)) k, v)
   at_put s k v total =
       let x : K × V = (unwrap_or (option_map (λ (e : K × V). e.0) (at cmp s k)) k, v) in
-      past cmp s (x ∷ above cmp s k) k ∙ ap (λ r. cond (is_eq r) (Some x) (at cmp (above cmp s k) k)) (at_key cmp total k s)
+      over_below cmp s (x ∷ above cmp s k) k ∙ ap (λ r. cond (is_eq r) (Some x) (at cmp (above cmp s k) k)) (at_key cmp total k s)
 
   -- The value that was put at a key stands there.
   pub value_at_put : (s : List (K × V)) (k : K) (v : V) → IsTotalOrder cmp → value_at cmp (put cmp s k v) k ≡ Some v
@@ -210,7 +211,7 @@ module _ {K V : Type 0} (cmp : K → K → Ordering) where
   pub ascending_cut : (s : List (K × V)) (k : K) → IsTotalOrder cmp → IsAscending cmp s → IsAscending cmp (cut cmp s k)
   ascending_cut s k total a = asc_cut cmp total s a k
 
-  -- what stands behind a pair whose key is not below k is above k
+  -- what stands after a pair whose key is not below k is above k
   later_above : (e : K × V) (s : List (K × V)) (k : K) → IsTotalOrder cmp → IsAscending cmp (e ∷ s) → (r : Ordering) → cmp e.0 k ≡ r → is_lt r ≡ false
       → AllByRecursion (λ x. cmp x.0 k ≡ Greater) s
   later_above e s k total a Less h n = absurd cc
@@ -302,10 +303,10 @@ module _ {K V : Type 0} (cmp : K → K → Ordering) where
   both_parts P [] t a = (tt, a)
   both_parts P (e ∷ s) t a = let i = both_parts P s t a.1 in ((a.0, i.0), i.1)
 
-  -- The keys in front of a pair of an ascending list are below its own.
-  pub smaller_ahead : (front back : List (K × V)) (e : K × V) → IsAscending cmp (front ++ e ∷ back) → AllByRecursion (λ x. cmp x.0 e.0 ≡ Less) front
-  smaller_ahead [] back e a = tt
-  smaller_ahead (x ∷ front) back e a = ((both_parts _ front (e ∷ back) a.0).1.0, smaller_ahead front back e a.1)
+  -- The keys before a pair of an ascending list are below its own.
+  pub smaller_before : (front back : List (K × V)) (e : K × V) → IsAscending cmp (front ++ e ∷ back) → AllByRecursion (λ x. cmp x.0 e.0 ≡ Less) front
+  smaller_before [] back e a = tt
+  smaller_before (x ∷ front) back e a = ((both_parts _ front (e ∷ back) a.0).1.0, smaller_before front back e a.1)
 
   -- The front of an ascending list is ascending.
   pub ascending_front : (front back : List (K × V)) → IsAscending cmp (front ++ back) → IsAscending cmp front
@@ -318,19 +319,19 @@ module _ {K V : Type 0} (cmp : K → K → Ordering) where
   ascending_back (e ∷ front) back a = ascending_back front back a.1
 
   -- what stands around a pair of an ascending list
-  ahead : (s front back : List (K × V)) (k : K) (v : V) → IsAscending cmp s → s ≡ front ++ (k, v) ∷ back → AllByRecursion (λ x. cmp x.0 k ≡ Less) front
-  ahead s front back k v a e = smaller_ahead front back (k, v) (subst (IsAscending cmp) e a)
+  before : (s front back : List (K × V)) (k : K) (v : V) → IsAscending cmp s → s ≡ front ++ (k, v) ∷ back → AllByRecursion (λ x. cmp x.0 k ≡ Less) front
+  before s front back k v a e = smaller_before front back (k, v) (subst (IsAscending cmp) e a)
 
-  behind : (s front back : List (K × V)) (k : K) (v : V) → IsTotalOrder cmp → IsAscending cmp s → s ≡ front ++ (k, v) ∷ back
+  after : (s front back : List (K × V)) (k : K) (v : V) → IsTotalOrder cmp → IsAscending cmp s → s ≡ front ++ (k, v) ∷ back
       → AllByRecursion (λ x. cmp x.0 k ≡ Greater) back
-  behind s front back k v total a e = later_above (k, v) back k total (ascending_back front ((k, v) ∷ back) (subst (IsAscending cmp) e a)) Equal
+  after s front back k v total a e = later_above (k, v) back k total (ascending_back front ((k, v) ∷ back) (subst (IsAscending cmp) e a)) Equal
       (tied_itself total k) refl
 
   -- At the key of a pair of an ascending list stands that pair.
   pub at_between : (s front back : List (K × V)) (k : K) (v : V) → IsTotalOrder cmp → IsAscending cmp s → s ≡ front ++ (k, v) ∷ back → at cmp s k ≡ Some (k, v)
   at_between s front back k v total a e =
       ap (λ t. at cmp t k) e ∙ find-append _ front ((k, v) ∷ back) ∙ rw
-      (not_found _ front (passes cmp is_eq Less k _ (ahead s front back k v a e)), tied_itself total k) refl
+      (not_found _ front (passes cmp is_eq Less k _ (before s front back k v a e)), tied_itself total k) refl
 
   -- A cut at the key of a pair of an ascending list leaves what stands around that pair.
   pub cut_between : (s front back : List (K × V)) (k : K) (v : V) → IsTotalOrder cmp → IsAscending cmp s → s ≡ front ++ (k, v) ∷ back
@@ -338,10 +339,10 @@ module _ {K V : Type 0} (cmp : K → K → Ordering) where
   cut_between s front back k v total a e = ap (λ t. cut cmp t k) e ∙ rw (lower, upper) refl
     where
       less : AllByRecursion (λ x. cmp x.0 k ≡ Less) front
-      less = ahead s front back k v a e
+      less = before s front back k v a e
 
       more : AllByRecursion (λ x. cmp x.0 k ≡ Greater) back
-      more = behind s front back k v total a e
+      more = after s front back k v total a e
 
       lower : below cmp (front ++ (k, v) ∷ back) k ≡ front
       lower = filter-append _ front ((k, v) ∷ back) ∙ rw (
@@ -357,19 +358,19 @@ module _ {K V : Type 0} (cmp : K → K → Ordering) where
         kept _ _ (passes cmp is_gt Greater k _ more),
       ) refl
 
-  -- The keys behind the first are above it.
+  -- The keys after the first are above it.
   pub first_is_least : (s rest : List (K × V)) (k : K) (v : V) → IsAscending cmp s → s ≡ (k, v) ∷ rest → All (λ e. cmp k e.0 ≡ Less) rest
   first_is_least s rest k v a e = All-from_recursion _ rest (subst (IsAscending cmp) e a).0
 
-  -- The keys in front of the last are below it.
+  -- The keys before the last are below it.
   pub last_is_greatest : (s front : List (K × V)) (k : K) (v : V) → IsAscending cmp s → s ≡ front ++ (k, v) ∷ [] → All (λ e. cmp e.0 k ≡ Less) front
-  last_is_greatest s front k v a e = All-from_recursion _ front (smaller_ahead front [] (k, v) (subst (IsAscending cmp) e a))
+  last_is_greatest s front k v a e = All-from_recursion _ front (smaller_before front [] (k, v) (subst (IsAscending cmp) e a))
 
-  -- What stands behind the first pair is ascending.
+  -- What stands after the first pair is ascending.
   pub ascending_rest : (s rest : List (K × V)) (e : K × V) → IsAscending cmp s → s ≡ e ∷ rest → IsAscending cmp rest
   ascending_rest s rest e a is = (subst (IsAscending cmp) is a).1
 
-  -- What stands in front of the last pair is ascending.
+  -- What stands before the last pair is ascending.
   pub ascending_lead : (s front : List (K × V)) (e : K × V) → IsAscending cmp s → s ≡ front ++ e ∷ [] → IsAscending cmp front
   ascending_lead s front e a is = ascending_front front (e ∷ []) (subst (IsAscending cmp) is a)
 
@@ -381,11 +382,11 @@ module _ {K V : Type 0} (cmp : K → K → Ordering) where
   pub at_last : (s front : List (K × V)) (k : K) (v : V) → IsTotalOrder cmp → IsAscending cmp s → s ≡ front ++ (k, v) ∷ [] → at cmp s k ≡ Some (k, v)
   at_last s front k v total a e = at_between s front [] k v total a e
 
-  -- A cut at the first key leaves what stands behind it.
+  -- A cut at the first key leaves what stands after it.
   pub cut_first : (s rest : List (K × V)) (k : K) (v : V) → IsTotalOrder cmp → IsAscending cmp s → s ≡ (k, v) ∷ rest → cut cmp s k ≡ rest
   cut_first s rest k v total a e = cut_between s [] rest k v total a e
 
-  -- A cut at the last key leaves what stands in front of it.
+  -- A cut at the last key leaves what stands before it.
   pub cut_last : (s front : List (K × V)) (k : K) (v : V) → IsTotalOrder cmp → IsAscending cmp s → s ≡ front ++ (k, v) ∷ [] → cut cmp s k ≡ front
   cut_last s front k v total a e = cut_between s front [] k v total a e ∙ append-nil front
 
@@ -451,10 +452,10 @@ module _ {K V : Type 0} (cmp : K → K → Ordering) where
   places_are_within lo hi s total a range =
       let front = length s - length (filter (λ e. starts cmp lo e.0) s) in
       let back = length (filter (λ e. stops cmp hi e.0) s) in
-      let ahead : length (take front s) ≡ front = length-take-le front s (omega arith) in
-      let behind : length (take back s) ≡ back = ap length (stopped hi s total a) in
-      let n : back - front ≡ length (take back s) - length (take front s) = omega (arith, ahead, behind) in
-      let between = between_tests (λ (e : K × V). starts cmp lo e.0) (λ e. stops cmp hi e.0) (λ e. not_past total lo hi range e.0) s (take front s)
+      let before : length (take front s) ≡ front = length-take-le front s (omega arith) in
+      let after : length (take back s) ≡ back = ap length (stopped hi s total a) in
+      let n : back - front ≡ length (take back s) - length (take front s) = omega (arith, before, after) in
+      let between = between_tests (λ (e : K × V). starts cmp lo e.0) (λ e. stops cmp hi e.0) (λ e. not_after total lo hi range e.0) s (take front s)
       (drop front s) (take back s) (drop back s) (take-append-drop front s) (take-append-drop back s) (started lo s total a) (stopped hi s total a) in
       ap (λ m. take m (drop front s)) n ∙ between.is
 

@@ -34,9 +34,9 @@ module _ {X : Type 0} where
           ≡ cond c (x ∷ filter (λ y. p y && q y) s) (filter (λ y. p y && q y) s)) [ true ↦ ap (λ zs. x ∷ zs) i | false ↦ i ]
       go false i = i
 
-  -- Nothing passes ahead of all that passes, or behind it.
-  none_ahead : (p : X → Bool) (s a b : List X) → s ≡ a ++ b → b ≡ filter p s → filter p a ≡ []
-  none_ahead p s a b e f =
+  -- Nothing passes before all that passes, or after it.
+  none_before : (p : X → Bool) (s a b : List X) → s ≡ a ++ b → b ≡ filter p s → filter p a ≡ []
+  none_before p s a b e f =
       let g : filter p b ≡ b = ap (filter p) f ∙ filter_twice p s ∙ sym f in
       append_cancel_right (filter p a) [] b (ap (λ zs. filter p a ++ zs) (sym g) ∙ sym (filter-append p a b) ∙ ap (filter p) (sym e) ∙ sym f)
 
@@ -57,7 +57,7 @@ module _ {X : Type 0} where
   pub between_tests : (p q : X → Bool) (other : (x : X) → p x ≡ false → q x ≡ true) (s lf rf lb rb : List X) → lf ++ rf ≡ s → lb ++ rb ≡ s → rf ≡ filter p s
       → lb ≡ filter q s → IsBetween lf rf lb (filter (λ x. p x && q x) s)
   between_tests p q other s lf rf lb rb e f g h =
-      let lead : filter q lf ≡ lf = others_pass p q other lf (none_ahead p s lf rf (sym e) g) in
+      let lead : filter q lf ≡ lf = others_pass p q other lf (none_before p s lf rf (sym e) g) in
       let mid = filter q rf in
       let back : lb ≡ lf ++ mid = h ∙ ap (filter q) (sym e) ∙ filter-append q lf rf ∙ ap (λ zs. zs ++ mid) lead in
       let front : rf ≡ mid ++ rb = append_cancel_left lf rf (mid ++ rb) (e ∙ sym f ∙ ap (λ zs. zs ++ rb) back ∙ append_assoc lf mid rb) in
@@ -96,15 +96,15 @@ module _ {K : Type 0} {cmp : K → K → Ordering} (o : IsTotalOrder cmp) (x a b
   le_below Greater s e f g h = absurd (cc)
 
 module _ {K : Type 0} {cmp : K → K → Ordering} (o : IsTotalOrder cmp) where
-  -- A key in front of a range's start is not behind its end.
-  pub not_past : (lo hi : Bound K) → is_range cmp lo hi ≡ true → (x : K) → starts cmp lo x ≡ false → stops cmp hi x ≡ true
-  not_past Unbounded hi r x e = absurd (cc)
-  not_past (Included a) Unbounded r x e = refl
-  not_past (Excluded a) Unbounded r x e = refl
-  not_past (Included a) (Included b) r x e = ap is_le (below_le o x a b (cmp x a) (cmp a b) refl refl e r)
-  not_past (Included a) (Excluded b) r x e = ap is_lt (below_le o x a b (cmp x a) (cmp a b) refl refl e r)
-  not_past (Excluded a) (Included b) r x e = le_le o x a b (cmp x a) (cmp a b) refl refl e r
-  not_past (Excluded a) (Excluded b) r x e = le_below o x a b (cmp x a) (cmp a b) refl refl e r
+  -- A key before a range's start is not after its end.
+  pub not_after : (lo hi : Bound K) → is_range cmp lo hi ≡ true → (x : K) → starts cmp lo x ≡ false → stops cmp hi x ≡ true
+  not_after Unbounded hi r x e = absurd (cc)
+  not_after (Included a) Unbounded r x e = refl
+  not_after (Excluded a) Unbounded r x e = refl
+  not_after (Included a) (Included b) r x e = ap is_le (below_le o x a b (cmp x a) (cmp a b) refl refl e r)
+  not_after (Included a) (Excluded b) r x e = ap is_lt (below_le o x a b (cmp x a) (cmp a b) refl refl e r)
+  not_after (Excluded a) (Included b) r x e = le_le o x a b (cmp x a) (cmp a b) refl refl e r
+  not_after (Excluded a) (Excluded b) r x e = le_below o x a b (cmp x a) (cmp a b) refl refl e r
 
 -- No more pairs lie within two bounds than there are.
 pub within_fits : {K Q V : Type 0} (cmp : K → Q → Ordering) (lo hi : Bound Q) (s part : List (K × V)) (n most : ℕ) → part ≡ within cmp lo hi s → n ≡ length s

@@ -1,4 +1,4 @@
--- Copies of a list's items, put behind those of another list.
+-- Copies of a list's items, put after those of another list.
 use Rattle.std.specs.Prelude.{◌≡◌, List, ◌∷◌, ◌++◌}
 use Rattle.std.specs.List.{AllZip}
 use Rattle.fc_base.specs.declared.try_reserve_error.TryReserveError.{TryReserveError}
@@ -10,7 +10,7 @@ module _ {T : Type 0} (same : T → T → Type 0) where
     pub copied : AllZip same sources copies
     pub is : new ≡ old ++ copies
 
-  -- The old items, and then copies of a front of the sources; the copy of the source behind that front may be refused by this error.
+  -- The old items, and then copies of a front of the sources; the copy of the source after that front may be refused by this error.
   pub record IsCopiedUpTo (may_refuse : T → TryReserveError → Type 0) (e : TryReserveError) (old sources new : List T) : Type 0 where
     pub front : List T
     pub source : T

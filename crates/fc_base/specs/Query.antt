@@ -14,7 +14,7 @@ pub record IsQueryOrder {K Q : Type 0} (cmp : K → K → Ordering) (order : K �
   -- a key below one that is below the query is below the query
   pub lower : (q : Q) (x y : K) → cmp x y ≡ Less → order y q ≡ Less → order x q ≡ Less
   -- a key above one that is equal to the query is above the query
-  pub past : (q : Q) (x y : K) → cmp x y ≡ Less → order x q ≡ Equal → order y q ≡ Greater
+  pub after : (q : Q) (x y : K) → cmp x y ≡ Less → order x q ≡ Equal → order y q ≡ Greater
   -- a key above one that is above the query is above the query
   pub upper : (q : Q) (x y : K) → cmp x y ≡ Less → order x q ≡ Greater → order y q ≡ Greater
 

@@ -18,13 +18,13 @@ bound_now b = bound_by (λ k. k.now) b
 
 -- The bounds are keys, or queries that keys stand to by an order.
 module _ {K Q : Type 0} (cmp : K → Q → Ordering) where
-  -- Whether a key is not in front of the start.
+  -- Whether a key is not before the start.
   abbrev pub starts : Bound Q → K → Bool
   starts (Included a) k = is_ge (cmp k a)
   starts (Excluded a) k = is_gt (cmp k a)
   starts Unbounded k = true
 
-  -- Whether a key is not behind the end.
+  -- Whether a key is not after the end.
   abbrev pub stops : Bound Q → K → Bool
   stops (Included b) k = is_le (cmp k b)
   stops (Excluded b) k = is_lt (cmp k b)

@@ -18,7 +18,7 @@ module _ {A : Type 0} {cmp : A → A → Ordering} (o : IsTotalOrder cmp) where
   viewed key query = record {
     same = λ q x y e. equal_right (key x) (key y) (query q) e;
     lower = λ q x y l e. o.trans (key x) (key y) (query q) l e;
-    past = λ q x y l e. equal_right (key x) (key y) (query q) e ∙ over_one cmp o (key x) (key y) l;
+    after = λ q x y l e. equal_right (key x) (key y) (query q) e ∙ over_one cmp o (key x) (key y) l;
     upper = λ q x y l g. over_one cmp o (query q) (key y) (o.trans (query q) (key x) (key y) (o.antisymm (query q) (key x) ∙ ap ordering_reverse g) l);
   }
 

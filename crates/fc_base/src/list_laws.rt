@@ -21,7 +21,7 @@ pub fn still_ascending<K: Ord, V>()
     ensures cut { (s : List (K × V)) (k : K) → IsAscending K.cmp s → IsAscending K.cmp (cut K.cmp s k) }
 {}
 
-/// Behind the first pair of an ascending list stand greater keys, in ascending order, and a cut at the first key leaves just
+/// After the first pair of an ascending list stand greater keys, in ascending order, and a cut at the first key leaves just
 /// these.
 #[tactic(auto, using(crate::proofs::Laws::cut_first))]
 pub fn first_pair<K: Ord, V>()
@@ -30,7 +30,7 @@ pub fn first_pair<K: Ord, V>()
     ensures left { (s rest : List (K × V)) (k : K) (v : V) → IsAscending K.cmp s → s ≡ (k, v) ∷ rest → cut K.cmp s k ≡ rest }
 {}
 
-/// In front of the last pair of an ascending list stand smaller keys, in ascending order, and a cut at the last key leaves just
+/// Before the last pair of an ascending list stand smaller keys, in ascending order, and a cut at the last key leaves just
 /// these.
 #[tactic(auto, using(crate::proofs::Laws::last_is_greatest, crate::proofs::Laws::ascending_lead, crate::proofs::Laws::cut_last))]
 pub fn last_pair<K: Ord, V>()

@@ -29,7 +29,7 @@ pub trait TryClone: Drop {
         requires { can_clone }
         ensures { MatchResult result (same self.now) (may_refuse self.now) };
 
-    /// Puts a copy of each source behind the items of `copies`, for which there is room. An error is that of a refused copy; those made
+    /// Puts a copy of each source after the items of `copies`, for which there is room. An error is that of a refused copy; those made
     /// before it stay. It copies one by one, and is there for types whose values can be copied all at once.
     fn try_clone_all<A: Handle>(
         sources: &[Self],

@@ -3,15 +3,14 @@ ghost use Rattle.std.specs.Prelude.{◌≡◌, ◌≤◌};
 ghost use Rattle.fc_budget.specs.Accounts.{cap_of, budget_cap, budget_inner};
 
 use crate::account::Account;
+use crate::capped::Capped;
 use crate::meter::Meter;
-use std::alloc::{AllocError, Allocator};
+use std::alloc::Allocator;
+use std::cell::Cell;
 
 /// An allocator over `inner` with a cap on the bytes that are out at once. Pass `&budget` where an allocator is taken: all that is made over it counts
 /// against the one cap, and no more once it is given back.
-pub struct Budget<B: Allocator> {
-    inner: B,
-    meter: Meter,
-}
+pub type Budget<B> = Capped<B, Meter<Cell<usize>>>;
 
 impl<B: Allocator> Budget<B> {
     /// A budget of which at most `bytes` bytes can be out at once.
@@ -19,9 +18,9 @@ impl<B: Allocator> Budget<B> {
         ensures cap { budget_cap result ≡ bytes }
         ensures inner { budget_inner result ≡ inner }
     {
-        Budget {
+        Capped {
             inner,
-            meter: Meter::new(bytes),
+            meter: Meter::new(Cell::new(0), bytes),
         }
     }
 
@@ -51,31 +50,5 @@ impl<B: Allocator> Budget<B> {
         ensures { result ≤ budget_cap self.now }
     {
         self.account().left()
-    }
-}
-
-impl<B: Allocator> Drop for Budget<B> {
-    fn drop(self) {
-        let Self { inner: _, meter: _ } = self;
-    }
-}
-
-unsafe impl<B: Allocator> Allocator for Budget<B> {
-    ghost dealloc_token = { λ heap ty ptr. B.dealloc_token (budget_inner heap) ty ptr };
-
-    fn allocate(&self, size: usize, align: usize) -> Result<*mut u8, AllocError> {
-        if !self.meter.charge(size) {
-            return Err(AllocError);
-        }
-        let answer = self.inner.allocate(size, align);
-        if let Err(AllocError) = answer {
-            self.meter.refund(size);
-        }
-        answer
-    }
-
-    unsafe fn deallocate(&self, ptr: *mut u8, size: usize, align: usize) {
-        self.meter.refund(size);
-        self.inner.deallocate(ptr, size, align);
     }
 }

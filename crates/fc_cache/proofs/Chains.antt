@@ -113,9 +113,9 @@ module _ {P : Type 0} {same : P → P → Bool} (laws : IsEquivalence same) wher
         let apart : Apart same v us = turned v us (all_map {R = λ q. Apart same q (k ∷ v ∷ vs)} {S = λ q. same q v ≡ false} (λ q h. h.1.0) us p.between.1) in
         let made : IsChain f' g' z us (f k) = retarget z us k (f k) on.front p.front (subst (λ n. Apart same n us) (sym on.back.0) apart) s t in
         let before : Apart same (g k) (v ∷ vs) = (last_in f g (λ q. Apart same q (k ∷ v ∷ vs)) z us k on.front p.between).1 in
-        let behind : Apart same v (vs ++ z ∷ []) = all_append (λ q. same v q ≡ false) vs (z ∷ []) p.back.1.0 (laws.symm v z ∙ p.between.0.1.0, tt) in
+        let after : Apart same v (vs ++ z ∷ []) = all_append (λ q. same v q ≡ false) vs (z ∷ []) p.back.1.0 (laws.symm v z ∙ p.between.0.1.0, tt) in
         joined f' g' z us v vs z (subst (λ n. IsChain f' g' z us n) on.back.0 made)
-        (stays same f g f' g' (g k) (f k) (f k) (g k) s t v vs z before (subst (λ n. Apart same n (vs ++ z ∷ [])) (sym on.back.0) behind) on.back.2)
+        (stays same f g f' g' (g k) (f k) (f k) (g k) s t v vs z before (subst (λ n. Apart same n (vs ++ z ∷ [])) (sym on.back.0) after) on.back.2)
 
   -- A new place is put at the end of a ring by two joins.
   pub put_last : (f g f' g' f'' g'' : P → P) (z : P) (us : List P) (k : P) → IsChain f g z us z → IsDistinct same (z ∷ us ++ k ∷ [])

@@ -62,13 +62,13 @@ module _ {K V : Type 0} where
   pub rest_missed : (limit : ℕ) (test : K → Bool) (es : List (K × Held V)) → lookup test es ≡ None → lookup test (rest_within limit es) ≡ None
   rest_missed limit test [] none = refl
   rest_missed limit test (e ∷ es) none =
-      let behind : lookup test es ≡ None = (elim (test e.0) as (λ b. cond b (Some e.1) (lookup test es) ≡ None → lookup test es ≡ None) [
+      let after : lookup test es ≡ None = (elim (test e.0) as (λ b. cond b (Some e.1) (lookup test es) ≡ None → lookup test es ≡ None) [
         | true ↦ λ h. absurd (none-some e.1 (sym h))
         | false ↦ λ h. h
       ]) none in
       elim (leb (total_cost (e ∷ es)) limit) as (λ b. lookup test (cond b (e ∷ es) (rest_within limit es)) ≡ None) [
         | true ↦ none
-        | false ↦ rest_missed limit test es behind
+        | false ↦ rest_missed limit test es after
       ]
 
 module _ {K V : Type 0} {eq : K → K → Bool} (laws : IsEquivalence eq) (q : K) (es : List (K × Held V)) where

@@ -89,17 +89,17 @@ module _ {K V : Type 0} where
     ]
 
 module _ {K X : Type 0} {eq : K → K → Bool} (laws : IsEquivalence eq) where
-  found_behind : (e : K × X) (es zs : List (K × X)) → AllByRecursion (λ y. eq e.0 y ≡ false) (keys_of zs)
+  found_after : (e : K × X) (es zs : List (K × X)) → AllByRecursion (λ y. eq e.0 y ≡ false) (keys_of zs)
       → AllByRecursion (λ y. lookup (eq y.0) es ≡ Some y.1) zs → AllByRecursion (λ y. lookup (eq y.0) (e ∷ es) ≡ Some y.1) zs
-  found_behind e es [] off all = tt
-  found_behind e es (z ∷ zs) off all =
-      (ap (λ b. cond b (Some e.1) (lookup (eq z.0) es)) (laws.symm z.0 e.0 ∙ off.0) ∙ all.0, found_behind e es zs off.1 all.1)
+  found_after e es [] off all = tt
+  found_after e es (z ∷ zs) off all =
+      (ap (λ b. cond b (Some e.1) (lookup (eq z.0) es)) (laws.symm z.0 e.0 ∙ off.0) ∙ all.0, found_after e es zs off.1 all.1)
 
   -- Each pair is found at its key.
   pub pairs_found : (es : List (K × X)) → IsDistinct eq (keys_of es) → AllByRecursion (λ y. lookup (eq y.0) es ≡ Some y.1) es
   unfolding IsDistinct
   pairs_found [] d = tt
-  pairs_found (e ∷ es) d = (ap (λ b. cond b (Some e.1) (lookup (eq e.0) es)) (laws.refl e.0), found_behind e es es d.0 (pairs_found es d.1))
+  pairs_found (e ∷ es) d = (ap (λ b. cond b (Some e.1) (lookup (eq e.0) es)) (laws.refl e.0), found_after e es es d.0 (pairs_found es d.1))
 
   -- The value that is taken was found.
   pub taken_value : (k : K) (w : X) (ps qs : List (K × X)) → IsDistinct eq (keys_of ps) → IsTaken eq k (Some w) ps qs → value_at eq k ps ≡ Some w
@@ -124,9 +124,9 @@ module _ {K V : Type 0} where
         | false ↦ lookup_value test es
       ]
 
-pub none_behind : {X Y : Type 0} (f : X → Y) (o : Option X) → option_map f o ≡ None → o ≡ None
-none_behind f None h = refl
-none_behind f (Some x) h = cc
+pub none_after : {X Y : Type 0} (f : X → Y) (o : Option X) → option_map f o ≡ None → o ≡ None
+none_after f None h = refl
+none_after f (Some x) h = cc
 
 module _ {K V : Type 0} {eq : K → K → Bool} (laws : IsEquivalence eq) where
   -- Places of different keys differ, also from that between the last and the first.

@@ -51,8 +51,8 @@ module _ {K V A : Type 0} {eq : K → K → Bool} (laws : IsEquivalence eq) (l :
       let at : k ≡ e.0 = cc in
       let here : eq k e.0 ≡ true = subst (λ x. eq x e.0 ≡ true) (sym at) (laws.refl e.0) in
       let some : Some e ≡ r = sym (taken ∙ ap (λ b. cond b (Some e) (lookup_entry (eq k) es)) here) in
-      let behind : es ≡ rest = sym (left ∙ ap (λ b. cond b es (e ∷ remove_entry (eq k) es)) here) in
-      subst (λ o. MatchOption o ((e ∷ es ≡ []) × (rest ≡ [])) (λ f. e ∷ es ≡ f ∷ rest)) some (ap (λ x. e ∷ x) behind)
+      let after : es ≡ rest = sym (left ∙ ap (λ b. cond b es (e ∷ remove_entry (eq k) es)) here) in
+      subst (λ o. MatchOption o ((e ∷ es ≡ []) × (rest ≡ [])) (λ f. e ∷ es ≡ f ∷ rest)) some (ap (λ x. e ∷ x) after)
 
   pub none_first : (es : List (K × Held V)) → IsSound eq l es → l.first ≡ None → es ≡ []
   none_first [] s none = refl

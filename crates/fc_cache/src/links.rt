@@ -89,7 +89,7 @@ impl<K: Eq + Hash + Copy, V, A: Handle> Links<K, V, A> {
         Some(stored)
     }
 
-    /// Puts the link that is in no ring behind the last one.
+    /// Puts the link that is in no ring after the last one.
     pub(crate) fn join_last(&mut self, key: K)
         requires { (rest : List (K × Held V)) × (h : Held V) × IsWaiting K.eq self.old rest (key, h) }
         ensures sound { (rest : List (K × Held V)) (h : Held V) → IsWaiting K.eq self.old rest (key, h) → IsSound K.eq self.new (rest ++ (key, h) ∷ []) }

@@ -137,7 +137,7 @@ module _ (Z : Type 0) where
   pub cut_faulted : (lines : List (List ℕ)) (text : List ℕ) (n : ℕ) → Faulted Z lines text n → Cut Z lines text
   cut_faulted lines text n s = ([], inr (n, rw (append-nil text) s))
 
--- bytes without a line feed were put behind the line, or are too many for it
+-- bytes without a line feed were put after the line, or are too many for it
 module _ {Z : Type 0} (seen said : List ℕ) (s : Session Z) (a : IsAfter s seen said) (part : List ℕ) (open_part : Open part) where
   pub part_on : (new : Session Z) → new.world ≡ s.world → new.number ≡ s.number → new.line.items ≡ s.line.items ++ part → IsAfter new (seen ++ part) said
   part_on new world number line = record {

@@ -42,7 +42,7 @@ module _ (Z : Type 0) where
   abbrev pub SpokenFront : List (List ℕ) → List ℕ → Type 0
   SpokenFront lines text = (front after : List (List ℕ)) × (lines ≡ front ++ after) × SpokenIn front text
 
-  -- Some front of the lines is spoken, and the line behind it names a list or asks for one.
+  -- Some front of the lines is spoken, and the line after it names a list or asks for one.
   abbrev pub StopsAtList : List (List ℕ) → List ℕ → Type 0
   StopsAtList lines text = (front after : List (List ℕ)) × (line : List ℕ) × (lines ≡ front ++ line ∷ after) × HasList line × SpokenIn front text
 
@@ -68,7 +68,7 @@ module _ (Z : Type 0) where
   ServedIn old new text (Ok Finished) = IsAtEnd new × IfSome old (λ source. SpokenIn (lines_of source) text)
   -- NotACommand: the lines before that line are spoken, and its fault line follows.
   ServedIn old new text (Ok (NotACommand n)) = IfSome old (λ source. Faulted (lines_of source) text n)
-  -- Memory: it was refused at the start, and nothing is read or written; or for the list that the line behind those spoken names or asks for,
+  -- Memory: it was refused at the start, and nothing is read or written; or for the list that the line after those spoken names or asks for,
   -- and nothing more is written.
   ServedIn old new text (Err (Memory e)) = (e ≡ AllocError) × (((new ≡ old) × (text ≡ [])) ⊎ IfSome old (λ source. StopsAtList (lines_of source) text))
   -- Read: the lines that were read to their line feed are spoken.

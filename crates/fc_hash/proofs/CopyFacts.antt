@@ -39,12 +39,12 @@ module _ {K V : Type 0} (eq : K → K → Bool) where
   at_key P [] e rest a = a.0
   at_key P (p ∷ ps) e rest a = at_key P ps e rest a.1
 
-  -- The keys in front of a pair are not equal to its own.
-  differ_ahead : (ps : List (K × V)) (e : K × V) (rest : List (K × V)) → IsMap eq (ps ++ e ∷ rest) → AllByRecursion (λ p. eq p.0 e.0 ≡ false) ps
-  differ_ahead [] e rest d = tt
-  differ_ahead (p ∷ ps) e rest d =
+  -- The keys before a pair are not equal to its own.
+  differ_before : (ps : List (K × V)) (e : K × V) (rest : List (K × V)) → IsMap eq (ps ++ e ∷ rest) → AllByRecursion (λ p. eq p.0 e.0 ≡ false) ps
+  differ_before [] e rest d = tt
+  differ_before (p ∷ ps) e rest d =
       let others = keys_of (ps ++ e ∷ rest) in
-      (at_key (λ y. eq p.0 y ≡ false) ps e rest (IsDistinct-head eq p.0 others d), differ_ahead ps e rest (IsDistinct-tail eq p.0 others d))
+      (at_key (λ y. eq p.0 y ≡ false) ps e rest (IsDistinct-head eq p.0 others d), differ_before ps e rest (IsDistinct-tail eq p.0 others d))
 
   module _ (laws : IsEquivalence eq) (same_key : K → K → Type 0) (same_value : V → V → Type 0) (equal : (a b : K) → same_key a b → eq a b ≡ true) where
     abbrev Copies : List (K × V) → List (K × V) → Type 0
@@ -69,7 +69,7 @@ module _ {K V : Type 0} (eq : K → K → Bool) where
         IsPermutation-trans (cs ++ copy ∷ []) (copy ∷ cs) after (IsPermutation-to_front cs copy)
         (IsPermutation-trans (copy ∷ cs) (copy ∷ made) after (IsPermutation-cons copy cs made p) put.1)
     copied_on ps rest cs made after e copy (Some w) distinct z p s put =
-        let apart = copies_differ ps cs e.0 copy.0 (differ_ahead ps e rest distinct) z s in
+        let apart = copies_differ ps cs e.0 copy.0 (differ_before ps e rest distinct) z s in
         let P : K × V → Type 0 = λ c. eq copy.0 c.0 ≡ false in
         let there = (put.0, w) ∷ put.1 in
         let order = IsPermutation-trans cs made there p (IsPermutation-sym there made put.2.1) in

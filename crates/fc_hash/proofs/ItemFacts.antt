@@ -22,7 +22,7 @@ module _ {T : Type 0} (eq : T → T → Bool) where
   at_item P [] t rest a = a.0
   at_item P (x ∷ ts) t rest a = at_item P ts t rest a.1
 
-  -- The items in front of one are not equal to it.
+  -- The items before one are not equal to it.
   differ_before : (ts : List T) (t : T) (rest : List T) → IsDistinct eq (ts ++ t ∷ rest) → AllByRecursion (λ x. eq x t ≡ false) ts
   differ_before [] t rest d = tt
   differ_before (x ∷ ts) t rest d =

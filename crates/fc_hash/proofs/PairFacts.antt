@@ -7,14 +7,14 @@ use Rattle.std.specs.List.Sorted.{IsPermutation}
 use Rattle.std.specs.Map.{lookup, set_value, remove_entry}
 use Rattle.fc_hash.specs.Pairs.{IsPut, IsTaken}
 
--- An item may stand in front of the others as well as among them.
+-- An item may stand before the others as well as among them.
 middle : {X : Type 0} (front back : List X) (x : X) → IsPermutation (x ∷ front ++ back) (front ++ x ∷ back)
 middle front back x =
     subst (IsPermutation (x ∷ front ++ back)) (append_assoc front (x ∷ []) back)
     (IsPermutation-append_left back (x ∷ front) (front ++ x ∷ []) (IsPermutation-sym (front ++ x ∷ []) (x ∷ front) (IsPermutation-to_front front x)))
 
 module _ {K V : Type 0} (test : K → Bool) where
-  -- The pair that a look-up found, between those before it and those behind it.
+  -- The pair that a look-up found, between those before it and those after it.
   pub record Found (es : List (K × V)) (w : V) : Type 0 where
     pub front : List (K × V)
     pub key : K

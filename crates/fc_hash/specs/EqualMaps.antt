@@ -38,8 +38,8 @@ module _ {K V : Type 0} {eq : K → K → Bool} (keys : IsEquivalence eq) where
   FindsNone-or_passes test q found = (found ≡ None) ⊎ ((k : K) × (eq q k ≡ true) × (test k ≡ true))
 
   first_key : (test : K → Bool) (q : K) (p : K × V) (rest : Option V) (b : Bool) → eq q p.0 ≡ b → test p.0 ≡ true → FindsNone-or_passes test q rest → FindsNone-or_passes test q (cond b (Some p.1) rest)
-  first_key test q p rest true e passes behind = inr (p.0, e, passes)
-  first_key test q p rest false e passes behind = behind
+  first_key test q p rest true e passes after = inr (p.0, e, passes)
+  first_key test q p rest false e passes after = after
 
   finds_none_or_passes : (test : K → Bool) (q : K) (ps : List (K × V)) → list_all test (keys_of ps) ≡ true → FindsNone-or_passes test q (value_at eq q ps)
   finds_none_or_passes test q [] all = inl refl

@@ -27,14 +27,14 @@ module _ {T : Type 0} {eq : T → T → Bool} (laws : IsEquivalence eq) where
 
   member_if_first : (us : List T) (q t : T) (rest b : Bool) → (rest ≡ true → is_member eq us q ≡ true) → eq q t ≡ b → is_member eq us t ≡ true → (b || rest) ≡ true
       → is_member eq us q ≡ true
-  member_if_first us q t rest true behind e m there = member_by_equal us q t e ∙ m
-  member_if_first us q t rest false behind e m there = behind there
+  member_if_first us q t rest true after e m there = member_by_equal us q t e ∙ m
+  member_if_first us q t rest false after e m there = after there
 
   member_if_all : (us ts : List T) (q : T) → list_all (is_member eq us) ts ≡ true → is_member eq ts q ≡ true → is_member eq us q ≡ true
   member_if_all us [] q all there = absurd (true≢false (sym there))
   member_if_all us (t ∷ ts) q all there =
-      let behind = member_if_all us ts q (second_so (is_member eq us t) _ all) in
-      member_if_first us q t (is_member eq ts q) (eq q t) behind refl (first_so (is_member eq us t) _ all) there
+      let after = member_if_all us ts q (second_so (is_member eq us t) _ all) in
+      member_if_first us q t (is_member eq ts q) (eq q t) after refl (first_so (is_member eq us t) _ all) there
 
   all_through : (ss ts us : List T) → list_all (is_member eq ts) ss ≡ true → list_all (is_member eq us) ts ≡ true → list_all (is_member eq us) ss ≡ true
   all_through [] ts us first second = refl

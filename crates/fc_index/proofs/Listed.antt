@@ -102,16 +102,16 @@ module _ {T : Type 0} (cmp : T → T → Ordering) (total : IsTotalOrder cmp) wh
     with_there : AreAscending cmp s → is_some (item_at cmp s x) ≡ true → with_item cmp s x ≡ s
     with_there a there = put_pairs ∙ ap keys (go (at cmp (pairs s) x) refl) ∙ pairs_keys s
       where
-        ahead : List (T × ⊤)
-        ahead = below cmp (pairs s) x
+        earlier : List (T × ⊤)
+        earlier = below cmp (pairs s) x
 
         later : List (T × ⊤)
         later = above cmp (pairs s) x
 
         go : (o : Option (T × ⊤)) → at cmp (pairs s) x ≡ o → put cmp (pairs s) x tt ≡ pairs s
         go None e = absurd (let no : true ≡ false = sym (some_in_pairs there) ∙ ap is_some e in cc)
-        go (Some y) e = ap (λ o. ahead ++ (unwrap_or (option_map (λ z. z.0) o) x, tt) ∷ later) e
-            ∙ sym (ap (λ o. ahead ++ (option_to_list o ++ later)) e) ∙ parts_joined cmp (pairs s) x total (ascending_pairs s a)
+        go (Some y) e = ap (λ o. earlier ++ (unwrap_or (option_map (λ z. z.0) o) x, tt) ∷ later) e
+            ∙ sym (ap (λ o. earlier ++ (option_to_list o ++ later)) e) ∙ parts_joined cmp (pairs s) x total (ascending_pairs s a)
 
     -- An item that is put in, and taken out again if it was new, leaves the list as it was.
     pub taken_back : (new : Bool) (more rest : List T) → AreAscending cmp s → IsTrue new ↔ (item_at cmp s x ≡ None) → more ≡ with_item cmp s x

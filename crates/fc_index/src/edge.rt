@@ -11,11 +11,11 @@ use fc_set::set::{BTreeSet, Range};
 use std::cmp::Ordering;
 use std::ops::Bound;
 
-// A place in an index: in front of all items of the key, or behind all of them.
+// A place in an index: before all items of the key, or after all of them.
 #[derive(Clone, Copy, Drop)]
 struct Edge<K> {
     key: K,
-    in_front: bool,
+    before: bool,
 }
 
 impl<K: Ord + Copy, I: Ord> Query<(K, I)> for Edge<K> {
@@ -23,14 +23,14 @@ impl<K: Ord + Copy, I: Ord> Query<(K, I)> for Edge<K> {
 
     ghost Sought = { K × Bool };
 
-    ghost sought = { λ q. (q.key, q.in_front) };
+    ghost sought = { λ q. (q.key, q.before) };
 
     ghost order = { edge_order K.cmp };
 
     ghost fits = { edges_fit K.cmp I.cmp K.total };
 
     fn order_of(&self, item: &(K, I)) -> Ordering {
-        let side = if self.in_front {
+        let side = if self.before {
             Ordering::Greater
         } else {
             Ordering::Less
@@ -42,36 +42,24 @@ impl<K: Ord + Copy, I: Ord> Query<(K, I)> for Edge<K> {
     }
 }
 
-// Where the items start whose keys are not in front of a start.
+// Where the items start whose keys are not before a start.
 fn start_of<K: Copy>(lo: Bound<K>) -> Bound<Edge<K>>
-    ensures { bound_by (λ q. (q.key, q.in_front)) result ≡ start_edge lo }
+    ensures { bound_by (λ q. (q.key, q.before)) result ≡ start_edge lo }
 {
     match lo {
-        Bound::Included(key) => Bound::Included(Edge {
-            key,
-            in_front: true,
-        }),
-        Bound::Excluded(key) => Bound::Included(Edge {
-            key,
-            in_front: false,
-        }),
+        Bound::Included(key) => Bound::Included(Edge { key, before: true }),
+        Bound::Excluded(key) => Bound::Included(Edge { key, before: false }),
         Bound::Unbounded => Bound::Unbounded,
     }
 }
 
-// Where the items end whose keys are not behind an end.
+// Where the items end whose keys are not after an end.
 fn end_of<K: Copy>(hi: Bound<K>) -> Bound<Edge<K>>
-    ensures { bound_by (λ q. (q.key, q.in_front)) result ≡ end_edge hi }
+    ensures { bound_by (λ q. (q.key, q.before)) result ≡ end_edge hi }
 {
     match hi {
-        Bound::Included(key) => Bound::Included(Edge {
-            key,
-            in_front: false,
-        }),
-        Bound::Excluded(key) => Bound::Included(Edge {
-            key,
-            in_front: true,
-        }),
+        Bound::Included(key) => Bound::Included(Edge { key, before: false }),
+        Bound::Excluded(key) => Bound::Included(Edge { key, before: true }),
         Bound::Unbounded => Bound::Unbounded,
     }
 }

@@ -61,8 +61,8 @@ module _ {K V : Type 0} (cmp : K → K → Ordering) (o : IsTotalOrder cmp) (y :
             (cond (is_le (cmp k p) && is_lt (cmp p z.end)) (Some (k, z)) (stretch_at cmp t p))))
             (option_map (λ (e : K × Stretch K V). e.1.value) (cond (is_le (cmp y.0 p) && is_lt (cmp p z.end)) (Some (both y z)) (stretch_at cmp t p)))
         go true e =
-            let ahead : cmp p k ≡ Less = less_le o p y.1.end k (is_less _ e) h.1.0 in
-            rw (e, ap is_lt (o.trans p k z.end ahead h.2.0), not_le_from_less o p k ahead)
+            let before : cmp p k ≡ Less = less_le o p y.1.end k (is_less _ e) h.1.0 in
+            rw (e, ap is_lt (o.trans p k z.end before h.2.0), not_le_from_less o p k before)
             (found (is_le (cmp y.0 p) && true) y (both y z) (stretch_at cmp t p) (inl refl))
         go false e =
             let upto : is_le (cmp y.1.end p) ≡ true = le_from_not_lt o p y.1.end e in
@@ -86,7 +86,7 @@ module _ {K V : Type 0} (cmp : K → K → Ordering) (o : IsTotalOrder cmp) (eq 
     whole : j.lead ++ y ∷ (second.0, j.second) ∷ above cmp s a ≡ s
     whole =
         sym (append_assoc j.lead (y ∷ []) ((second.0, j.second) ∷ above cmp s a))
-        ∙ ap (λ l. l ++ (second.0, j.second) ∷ above cmp s a) (sym j.ahead)
+        ∙ ap (λ l. l ++ (second.0, j.second) ∷ above cmp s a) (sym j.before)
         ∙ ap (λ m. below cmp s a ++ (option_to_list m ++ above cmp s a)) (sym second.1)
         ∙ parts_joined cmp s a o (apart_ascend cmp o s apart)
 
@@ -108,20 +108,20 @@ module _ {K V : Type 0} (cmp : K → K → Ordering) (o : IsTotalOrder cmp) (eq 
         (subst (λ l. IsKept (λ x w. eq w x ≡ true) (value_at_point cmp (j.lead ++ y ∷ (second.0, j.second) ∷ above cmp s a) p) (value_at_point cmp l p))
         (sym j.is) kept)
 
-  -- where the second was taken out, and the last ahead of its place then drawn out to its end, the two are one
+  -- where the second was taken out, and the last before its place then drawn out to its end, the two are one
   pub joined_by : (t new : List (K × Stretch K V)) (y : K × Stretch K V) (z : Stretch K V) (end : K) → AreJoint cmp eq a s y z → t ≡ cut cmp s a
       → end ≡ z.end → (below cmp t a ≡ []) ⊎ IsDrawnOut cmp a t end new → IsJoined cmp eq a s new
   joined_by t new y z end joint is ends h = elim h as (λ _. IsJoined cmp eq a s new) [
     | inl none ↦ absurd (let no : None ≡ Some y = ap last_item (sym none ∙ same) ∙ joint.last in cc)
     | inr d ↦
-        let ahead : below cmp s a ≡ d.lead ++ d.last ∷ [] = sym same ∙ d.ahead in
-        let first : d.last ≡ y = one_value _ _ (sym (last_is d.lead d.last) ∙ ap last_item (sym ahead) ∙ joint.last) in
+        let before : below cmp s a ≡ d.lead ++ d.last ∷ [] = sym same ∙ d.before in
+        let first : d.last ≡ y = one_value _ _ (sym (last_is d.lead d.last) ∙ ap last_item (sym before) ∙ joint.last) in
         record {
           first = d.last;
           second = z;
           joint = subst (λ f. AreJoint cmp eq a s f z) (sym first) joint;
           lead = d.lead;
-          ahead = ahead;
+          before = before;
           is = d.is ∙ rw (ends, ap (λ l. not_below cmp l a) is ∙ not_below_cut cmp s a) refl;
         }
   ]

@@ -27,8 +27,8 @@ kept_exact same (Some x) (Some y) exact h = elim h as (λ _. Some y ≡ Some x) 
 pub numbers_outside : {V : Type 0} (same : V → V → Type 0) → IsExact same → (a b : ℕ) (v : Option V) (old new : List (ℕ × Stretch ℕ V))
     → IsWritten nat_cmp same a b v old new → (p : ℕ) → (p < a) ⊎ (b ≤ p) → value_at_point nat_cmp new p ≡ value_at_point nat_cmp old p
 numbers_outside same exact a b v old new w p h = elim h as (λ _. value_at_point nat_cmp new p ≡ value_at_point nat_cmp old p) [
-  | inl l ↦ w.ahead p ((number_less p a).1 l)
-  | inr l ↦ kept_exact same (value_at_point nat_cmp old p) (value_at_point nat_cmp new p) exact (w.behind p ((number_at_most b p).1 l))
+  | inl l ↦ w.before p ((number_less p a).1 l)
+  | inr l ↦ kept_exact same (value_at_point nat_cmp old p) (value_at_point nat_cmp new p) exact (w.after p ((number_at_most b p).1 l))
 ]
 
 module _ {K V : Type 0} (cmp : K → K → Ordering) (o : IsTotalOrder cmp) (from to : K) (e : K × Stretch K V) where

@@ -13,11 +13,11 @@ use Rattle.fc_base.specs.Parts.{at, below}
 use Rattle.fc_base.specs.Viewed.{over_one}
 use Rattle.fc_base.proofs.AscendingFacts.{all_map}
 use Rattle.fc_laws.specs.Words.{last_item}
-use Rattle.fc_intervals.specs.Refusals.{ends_behind, MayRefuseAt, parted_length, put_length, starts_at}
+use Rattle.fc_intervals.specs.Refusals.{ends_after, MayRefuseAt, parted_length, put_length, starts_at}
 use Rattle.fc_intervals.specs.Steps.{EndsBy, IsRest, starting}
 use Rattle.fc_intervals.specs.Stretches.{AreApart}
 use Rattle.fc_intervals.specs.declared.stretch.Stretch.{Stretch}
-use Rattle.fc_intervals.proofs.Lists.{found_ahead, not_found}
+use Rattle.fc_intervals.proofs.Lists.{found_before, not_found}
 use Rattle.fc_intervals.proofs.Order.{is_less, less_le}
 use Rattle.fc_intervals.proofs.Parted.{none_starts}
 use Rattle.fc_intervals.proofs.Points.{StartFrom}
@@ -30,15 +30,15 @@ full_new n None P fits full more = let most : n ≡ 2 ^ 64 - 1 = omega arith in 
 full_new n (Some x) P fits full more = absurd (omega arith)
 
 module _ {K V : Type 0} (cmp : K → K → Ordering) (s : List (K × Stretch K V)) (b : K) where
-  not_behind : (l : Option (K × Stretch K V)) → EndsBy cmp b l → ends_behind cmp b l ≡ false
-  not_behind None h = refl
-  not_behind (Some y) h = h
+  not_after : (l : Option (K × Stretch K V)) → EndsBy cmp b l → ends_after cmp b l ≡ false
+  not_after None h = refl
+  not_after (Some y) h = h
 
   kept_length : EndsBy cmp b (last_item (below cmp s b)) → parted_length cmp s b ≡ length s
-  kept_length h = ap (λ g. length s + cond g 1 0) (not_behind (last_item (below cmp s b)) h) ∙ add-zero (length s)
+  kept_length h = ap (λ g. length s + cond g 1 0) (not_after (last_item (below cmp s b)) h) ∙ add-zero (length s)
 
   more_length : (y : K × Stretch K V) → last_item (below cmp s b) ≡ Some y → is_lt (cmp b y.1.end) ≡ true → parted_length cmp s b ≡ length s + 1
-  more_length y last on = ap (λ g. length s + cond g 1 0) (ap (ends_behind cmp b) last ∙ on)
+  more_length y last on = ap (λ g. length s + cond g 1 0) (ap (ends_after cmp b) last ∙ on)
 
   -- where nothing goes on, the list stays as long as it is
   pub kept_fits : EndsBy cmp b (last_item (below cmp s b)) → length s < 2 ^ 64 → ¬ (2 ^ 64 - 1 < parted_length cmp s b)
@@ -52,7 +52,7 @@ module _ {K V : Type 0} (cmp : K → K → Ordering) (o : IsTotalOrder cmp) (s :
   rest_more P r h full more = full (subst (λ n. 2 ^ 64 - 1 < n) (more_length cmp s b h.0 h.1 h.2
       ∙ ap (λ q. length s + cond (is_some q) 0 1) (sym (none_starts cmp o s apart same b h.0 r h.1 (is_less _ h.2)))) more)
 
-  -- the list in which what goes on behind a point starts there too
+  -- the list in which what goes on after a point starts there too
   module _ (rest : Option (Stretch K V)) (is_rest : IsRest cmp same s b rest) (t : List (K × Stretch K V))
       (is : t ≡ below cmp s b ++ (starting b rest ++ not_below cmp s b)) where
     length_of : (q : Option (Stretch K V)) → IsRest cmp same s b q → length (below cmp s b ++ (starting b q ++ not_below cmp s b)) ≡ parted_length cmp s b
@@ -70,7 +70,7 @@ module _ {K V : Type 0} (cmp : K → K → Ordering) (o : IsTotalOrder cmp) (s :
 
     module _ (a : K) (range : cmp a b ≡ Less) where
       at_front : (back : List (K × Stretch K V)) → StartFrom cmp b back → at cmp (below cmp s b ++ back) a ≡ at cmp (below cmp s b) a
-      at_front back from = found_ahead _ (below cmp s b) back
+      at_front back from = found_before _ (below cmp s b) back
           (not_found _ back (all_map _ _ (λ e h. ap is_eq (over_one cmp o a e.0 (less_le o a b e.0 range h))) back from))
 
       starts_parted : starts_at cmp t a ≡ starts_at cmp s a
@@ -78,11 +78,11 @@ module _ {K V : Type 0} (cmp : K → K → Ordering) (o : IsTotalOrder cmp) (s :
           ap is_some (ap (λ l. at cmp l a) is ∙ at_front (starting b rest ++ not_below cmp s b) (rest_from cmp o s apart same b rest)
           ∙ sym (at_front (not_below cmp s b) (start_from cmp o s apart b)) ∙ ap (λ l. at cmp l a) (halves cmp o s apart b))
 
-      -- what refuses a stretch that is put ahead of it
-      pub refused_ahead : (e : TryReserveError) → MayRefuseAt cmp t a (length t) e → MayRefuseAt cmp s a (parted_length cmp s b) e
-      refused_ahead e h =
+      -- what refuses a stretch that is put before it
+      pub refused_before : (e : TryReserveError) → MayRefuseAt cmp t a (length t) e → MayRefuseAt cmp s a (parted_length cmp s b) e
+      refused_before e h =
           (sym starts_parted ∙ h.0, subst (λ n. n < 2 ^ 64) length_parted h.1, subst (λ n. MayGrowRefuse n e) length_parted h.2)
 
-      pub full_ahead : (P : Type 0) → (2 ^ 64 - 1 < length t + cond (starts_at cmp t a) 0 1 → P) → 2 ^ 64 - 1 < put_length cmp s a b → P
-      full_ahead P full more = full (subst (λ n. 2 ^ 64 - 1 < n) (sym (ap (λ n. n + cond (starts_at cmp t a) 0 1) length_parted
+      pub full_before : (P : Type 0) → (2 ^ 64 - 1 < length t + cond (starts_at cmp t a) 0 1 → P) → 2 ^ 64 - 1 < put_length cmp s a b → P
+      full_before P full more = full (subst (λ n. 2 ^ 64 - 1 < n) (sym (ap (λ n. n + cond (starts_at cmp t a) 0 1) length_parted
           ∙ ap (λ g. parted_length cmp s b + cond g 0 1) starts_parted)) more)

@@ -82,11 +82,11 @@ module _ {X : Type 0} where
   no_more None = refl
   no_more (Some x) = refl
 
-  pub found_behind : (p : X → Bool) (s t : List X) → find p s ≡ None → find p (s ++ t) ≡ find p t
-  found_behind p s t h = find-append p s t ∙ ap (λ o. option_or o (find p t)) h
+  pub found_after : (p : X → Bool) (s t : List X) → find p s ≡ None → find p (s ++ t) ≡ find p t
+  found_after p s t h = find-append p s t ∙ ap (λ o. option_or o (find p t)) h
 
-  pub found_ahead : (p : X → Bool) (s t : List X) → find p t ≡ None → find p (s ++ t) ≡ find p s
-  found_ahead p s t h = find-append p s t ∙ ap (option_or (find p s)) h ∙ no_more (find p s)
+  pub found_before : (p : X → Bool) (s t : List X) → find p t ≡ None → find p (s ++ t) ≡ find p s
+  found_before p s t h = find-append p s t ∙ ap (option_or (find p s)) h ∙ no_more (find p s)
 
   last_more : (x y : X) (s : List X) → last_item (x ∷ y ∷ s) ≡ last_item (y ∷ s)
   last_more x y s = let n : suc (suc (length s)) - 1 ≡ suc (suc (length s) - 1) = omega arith in ap (slice_get (x ∷ y ∷ s)) n

@@ -1,4 +1,4 @@
--- A list of stretches in which what goes on behind a point starts there too, and what a call on a range makes of it.
+-- A list of stretches in which what goes on after a point starts there too, and what a call on a range makes of it.
 use Rattle.std.proofs.Common.{◌≡◌, Bool, true, false, cond, List, ◌∷◌, ◌++◌, Option, Some, None, refl, sym, ap, ◌∙◌, subst, append-nil}
 use Rattle.std.specs.Prelude.{◌&&◌, not, map, unwrap_or}
 use Rattle.std.specs.List.{filter}
@@ -17,24 +17,24 @@ use Rattle.fc_base.proofs.Laws.{cut_put_new}
 use Rattle.fc_laws.proofs.NeighbourLaws.{below_put, not_below_put}
 use Rattle.fc_laws.specs.Words.{last_item}
 use Rattle.fc_map.specs.Ranged.{outside}
-use Rattle.fc_intervals.specs.Steps.{ahead, ended, IsCut, IsParted, IsRest, starting}
+use Rattle.fc_intervals.specs.Steps.{before, ended, IsCut, IsParted, IsRest, starting}
 use Rattle.fc_intervals.specs.Stretches.{AreApart, IsWritten}
 use Rattle.fc_intervals.specs.declared.stretch.Stretch.{Stretch}
 use Rattle.fc_intervals.proofs.Lists.{and_false, kept, left_out, filters_both, not_found, all_joined}
 use Rattle.fc_intervals.proofs.Order.{is_less, not_less, not_lt_from_le, ge_from_le, less_le, le_le}
 use Rattle.fc_intervals.proofs.Points.{apart_ascend, apart_kept}
-use Rattle.fc_intervals.proofs.Written.{behind_greater, cut_apart, cut_written, front_less, halves, put_all, put_between, rest_from}
+use Rattle.fc_intervals.proofs.Written.{after_greater, cut_apart, cut_written, front_less, halves, put_all, put_between, rest_from}
 
--- the stretches of a range, of which the first begins behind its start, go out of a list
+-- the stretches of a range, of which the first begins after its start, go out of a list
 module _ {K V : Type 0} (cmp : K → K → Ordering) (o : IsTotalOrder cmp) (s : List (K × Stretch K V)) (a b : K) where
   pub cleared_is : is_le (cmp a b) ≡ true
-      → outside cmp (Included a) (Excluded b) (ahead cmp s a ++ not_below cmp s a) ≡ ahead cmp s a ++ not_below cmp s b
+      → outside cmp (Included a) (Excluded b) (before cmp s a ++ not_below cmp s a) ≡ before cmp s a ++ not_below cmp s b
   cleared_is upto =
-      filter-append _ (ahead cmp s a) (not_below cmp s a)
+      filter-append _ (before cmp s a) (not_below cmp s a)
       ∙ ap (λ l. l ++ filter (λ e. not (is_ge (cmp e.0 a) && is_lt (cmp e.0 b))) (not_below cmp s a))
-      (kept (λ e. not (is_ge (cmp e.0 a) && is_lt (cmp e.0 b))) (ahead cmp s a)
-      (all_map _ _ (λ e h. ap (λ r. not (is_ge r && is_lt (cmp e.0 b))) h) (ahead cmp s a) (front_less cmp s a)))
-      ∙ ap (λ l. ahead cmp s a ++ l) (filters_both (λ e. is_ge (cmp e.0 a)) (λ e. not (is_ge (cmp e.0 a) && is_lt (cmp e.0 b))) (λ e. is_ge (cmp e.0 b))
+      (kept (λ e. not (is_ge (cmp e.0 a) && is_lt (cmp e.0 b))) (before cmp s a)
+      (all_map _ _ (λ e h. ap (λ r. not (is_ge r && is_lt (cmp e.0 b))) h) (before cmp s a) (front_less cmp s a)))
+      ∙ ap (λ l. before cmp s a ++ l) (filters_both (λ e. is_ge (cmp e.0 a)) (λ e. not (is_ge (cmp e.0 a) && is_lt (cmp e.0 b))) (λ e. is_ge (cmp e.0 b))
       (λ e. go e (cmp e.0 a) refl) s)
     where
       go : (e : K × Stretch K V) (r : Ordering) → cmp e.0 a ≡ r → (is_ge r && not (is_ge r && is_lt (cmp e.0 b))) ≡ is_ge (cmp e.0 b)
@@ -42,9 +42,9 @@ module _ {K V : Type 0} (cmp : K → K → Ordering) (o : IsTotalOrder cmp) (s :
       go e Equal h = not_less (cmp e.0 b)
       go e Greater h = not_less (cmp e.0 b)
 
-  -- those behind the start alone
-  behind_start : cmp a b ≡ Less → filter (λ e. not (is_gt (cmp e.0 a) && is_lt (cmp e.0 b))) (above cmp s a) ≡ not_below cmp s b
-  behind_start range = filters_both (λ e. is_gt (cmp e.0 a)) (λ e. not (is_gt (cmp e.0 a) && is_lt (cmp e.0 b))) (λ e. is_ge (cmp e.0 b))
+  -- those after the start alone
+  after_start : cmp a b ≡ Less → filter (λ e. not (is_gt (cmp e.0 a) && is_lt (cmp e.0 b))) (above cmp s a) ≡ not_below cmp s b
+  after_start range = filters_both (λ e. is_gt (cmp e.0 a)) (λ e. not (is_gt (cmp e.0 a) && is_lt (cmp e.0 b))) (λ e. is_ge (cmp e.0 b))
       (λ e. go e (cmp e.0 a) refl) s
     where
       go : (e : K × Stretch K V) (r : Ordering) → cmp e.0 a ≡ r → (is_gt r && not (is_gt r && is_lt (cmp e.0 b))) ≡ is_ge (cmp e.0 b)
@@ -60,18 +60,18 @@ module _ {K V : Type 0} (cmp : K → K → Ordering) (o : IsTotalOrder cmp) (s :
     with_range = put cmp s a g
 
     -- a stretch that was put at the start stays
-    put_cleared : outside cmp (Excluded a) (Excluded b) (ahead cmp with_range a ++ not_below cmp with_range a)
-        ≡ ahead cmp s a ++ (key, g) ∷ not_below cmp s b
+    put_cleared : outside cmp (Excluded a) (Excluded b) (before cmp with_range a ++ not_below cmp with_range a)
+        ≡ before cmp s a ++ (key, g) ∷ not_below cmp s b
     put_cleared =
         let p : K × Stretch K V → Bool = λ e. not (is_gt (cmp e.0 a) && is_lt (cmp e.0 b)) in
         ap (λ l. filter (λ e. not (is_gt (cmp e.0 a) && is_lt (cmp e.0 b))) (map (ended cmp a) l ++ not_below cmp with_range a)) (below_put cmp s a g o)
-        ∙ ap (λ l. filter (λ e. not (is_gt (cmp e.0 a) && is_lt (cmp e.0 b))) (ahead cmp s a ++ l)) (not_below_put cmp s a g o)
-        ∙ filter-append p (ahead cmp s a) ((key, g) ∷ above cmp s a)
-        ∙ ap (λ l. l ++ filter p ((key, g) ∷ above cmp s a)) (kept p (ahead cmp s a)
-        (all_map _ _ (λ e h. ap (λ r. not (is_gt r && is_lt (cmp e.0 b))) h) (ahead cmp s a) (front_less cmp s a)))
-        ∙ ap (λ r. ahead cmp s a ++ cond (not (is_gt r && is_lt (cmp key b))) ((key, g) ∷ filter p (above cmp s a)) (filter p (above cmp s a)))
+        ∙ ap (λ l. filter (λ e. not (is_gt (cmp e.0 a) && is_lt (cmp e.0 b))) (before cmp s a ++ l)) (not_below_put cmp s a g o)
+        ∙ filter-append p (before cmp s a) ((key, g) ∷ above cmp s a)
+        ∙ ap (λ l. l ++ filter p ((key, g) ∷ above cmp s a)) (kept p (before cmp s a)
+        (all_map _ _ (λ e h. ap (λ r. not (is_gt r && is_lt (cmp e.0 b))) h) (before cmp s a) (front_less cmp s a)))
+        ∙ ap (λ r. before cmp s a ++ cond (not (is_gt r && is_lt (cmp key b))) ((key, g) ∷ filter p (above cmp s a)) (filter p (above cmp s a)))
         (at_key cmp o a s)
-        ∙ ap (λ l. ahead cmp s a ++ (key, g) ∷ l) (behind_start range)
+        ∙ ap (λ l. before cmp s a ++ (key, g) ∷ l) (after_start range)
 
 module _ {K V : Type 0} (cmp : K → K → Ordering) (o : IsTotalOrder cmp) (s : List (K × Stretch K V)) (apart : AreApart cmp s)
     (same : V → V → Type 0) (b : K) where
@@ -81,12 +81,12 @@ module _ {K V : Type 0} (cmp : K → K → Ordering) (o : IsTotalOrder cmp) (s :
     none_starts = ap (λ l. at cmp l b) (sym (halves cmp o s apart b))
         ∙ not_found _ (below cmp s b ++ not_below cmp s b) (all_joined _ (below cmp s b) (not_below cmp s b)
         (all_map _ _ (λ e h. ap is_eq h) (below cmp s b) (all_below cmp s b))
-        (all_map _ _ (λ e h. ap is_eq h) (not_below cmp s b) (behind_greater cmp o s apart b y last on)))
+        (all_map _ _ (λ e h. ap is_eq h) (not_below cmp s b) (after_greater cmp o s apart b y last on)))
 
     -- the rest finds its place, and can be taken out again
     put_rest : put cmp s b r ≡ below cmp s b ++ (b, r) ∷ not_below cmp s b
     put_rest = ap (λ l. put cmp l b r) (sym (halves cmp o s apart b))
-        ∙ put_between cmp (below cmp s b) (not_below cmp s b) b r (all_below cmp s b) (behind_greater cmp o s apart b y last on)
+        ∙ put_between cmp (below cmp s b) (not_below cmp s b) b r (all_below cmp s b) (after_greater cmp o s apart b y last on)
 
     cut_rest : cut cmp (put cmp s b r) b ≡ s
     cut_rest = cut_put_new cmp s b r o (apart_ascend cmp o s apart) none_starts
@@ -137,14 +137,14 @@ module _ {K V : Type 0} (cmp : K → K → Ordering) (o : IsTotalOrder cmp) (s :
 
       -- what a cut makes of it
       pub cut_parted : (t u : List (K × Stretch K V)) → t ≡ parted
-          → u ≡ outside cmp (Included a) (Excluded b) (ahead cmp t a ++ not_below cmp t a)
+          → u ≡ outside cmp (Included a) (Excluded b) (before cmp t a ++ not_below cmp t a)
           → IsCut cmp same a b s u × AreApart cmp u × IsWritten cmp same a b None s u
       cut_parted t u is e =
-          let left : u ≡ ahead cmp s a ++ back =
+          let left : u ≡ before cmp s a ++ back =
           e ∙ cleared_is cmp o t a b upto
-          ∙ ap (λ l. ahead cmp l a ++ not_below cmp l b) is
+          ∙ ap (λ l. before cmp l a ++ not_below cmp l b) is
           ∙ ap (λ l. map (ended cmp a) l ++ not_below cmp parted b) below_parted
-          ∙ ap (λ l. ahead cmp s a ++ l) not_below_parted in (
+          ∙ ap (λ l. before cmp s a ++ l) not_below_parted in (
             record { rest = rest; is_rest = is_rest; is = left },
             subst (AreApart cmp) (sym left) (cut_apart cmp o s apart a b upto same rest is_rest),
             subst (IsWritten cmp same a b None s) (sym left) (cut_written cmp o s apart a b upto same rest is_rest),
@@ -156,11 +156,11 @@ module _ {K V : Type 0} (cmp : K → K → Ordering) (o : IsTotalOrder cmp) (s :
       given = record { end = b; value = v }
 
       pub put_parted : (t u : List (K × Stretch K V)) → t ≡ parted
-          → u ≡ outside cmp (Excluded a) (Excluded b) (ahead cmp (put cmp t a given) a ++ not_below cmp (put cmp t a given) a)
+          → u ≡ outside cmp (Excluded a) (Excluded b) (before cmp (put cmp t a given) a ++ not_below cmp (put cmp t a given) a)
           → AreApart cmp u × IsWritten cmp same a b (Some v) s u
       put_parted t u is e =
           put_all cmp o s apart a b (ap is_le range) same rest is_rest range v (key cmp o t a b range given) (at_key cmp o a t) u
           (e ∙ put_cleared cmp o t a b range given
           ∙ ap (λ l. map (ended cmp a) l ++ (key cmp o t a b range given, given) ∷ not_below cmp t b)
           (ap (λ l. below cmp l a) is ∙ below_parted a (ap is_le range))
-          ∙ ap (λ l. ahead cmp s a ++ (key cmp o t a b range given, given) ∷ l) (ap (λ l. not_below cmp l b) is ∙ not_below_parted))
+          ∙ ap (λ l. before cmp s a ++ (key cmp o t a b range given, given) ∷ l) (ap (λ l. not_below cmp l b) is ∙ not_below_parted))

@@ -14,7 +14,7 @@ use Rattle.fc_laws.specs.Words.{last_item, not_above}
 use Rattle.fc_intervals.specs.Steps.{ended}
 use Rattle.fc_intervals.specs.Stretches.{AreApart, lies, stretch_at, value_at_point}
 use Rattle.fc_intervals.specs.declared.stretch.Stretch.{Stretch}
-use Rattle.fc_intervals.proofs.Lists.{EndsIn, and_false, and_left, all_kept, all_joined, all_at, all_over, all_pass, found_in, found_behind, no_last}
+use Rattle.fc_intervals.proofs.Lists.{EndsIn, and_false, and_left, all_kept, all_joined, all_at, all_over, all_pass, found_in, found_after, no_last}
 use Rattle.fc_intervals.proofs.Lists.{not_found, ends_in}
 use Rattle.fc_intervals.proofs.Order.{is_less, le_from_not_lt, not_lt_from_le, not_le_from_less, less_le, le_le}
 
@@ -23,7 +23,7 @@ module _ {K V : Type 0} (cmp : K → K → Ordering) where
   abbrev pub EndBy : K → List (K × Stretch K V) → Type 0
   EndBy a s = AllByRecursion (λ e. is_le (cmp e.1.end a) ≡ true) s
 
-  -- all of them start at a point or behind
+  -- all of them start at a point or after
   abbrev pub StartFrom : K → List (K × Stretch K V) → Type 0
   StartFrom a s = AllByRecursion (λ e. is_le (cmp a e.0) ≡ true) s
 
@@ -50,9 +50,9 @@ module _ {K V : Type 0} (cmp : K → K → Ordering) where
     apart_joined a (e ∷ s) t h ends i starts =
         (h.0, all_joined _ s t h.1 (all_map _ _ (λ x l. le_le o e.1.end a x.0 ends.0 l) t starts), apart_joined a s t h.2 ends.1 i starts)
 
-    -- a point behind all, and one ahead of all
-    pub past : (a p : K) (s : List (K × Stretch K V)) → EndBy a s → is_le (cmp a p) ≡ true → stretch_at cmp s p ≡ None
-    past a p s ends l = not_found _ s (all_map _ _ (λ e h. ap (λ t. is_le (cmp e.0 p) && t) (not_lt_from_le o e.1.end p (le_le o e.1.end a p h l))
+    -- a point after all, and one before all
+    pub ended_before : (a p : K) (s : List (K × Stretch K V)) → EndBy a s → is_le (cmp a p) ≡ true → stretch_at cmp s p ≡ None
+    ended_before a p s ends l = not_found _ s (all_map _ _ (λ e h. ap (λ t. is_le (cmp e.0 p) && t) (not_lt_from_le o e.1.end p (le_le o e.1.end a p h l))
         ∙ and_false (is_le (cmp e.0 p))) s ends)
 
     pub yet_to_come : (a p : K) (s : List (K × Stretch K V)) → StartFrom a s → cmp p a ≡ Less → stretch_at cmp s p ≡ None
@@ -75,7 +75,7 @@ module _ {K V : Type 0} (cmp : K → K → Ordering) where
           subst (AllByRecursion (λ x. is_le (cmp x.0 p) ≡ true)) split.is (all_pass (λ x. is_le (cmp x.0 p)) s) in
           let from : is_le (cmp y.0 p) ≡ true = all_at _ split.lead [] y pass in
           among ∙ ap (λ t. stretch_at cmp t p) split.is
-          ∙ found_behind _ split.lead (y ∷ []) (past y.0 p split.lead (lead_ends split.lead [] y parts) from)
+          ∙ found_after _ split.lead (y ∷ []) (ended_before y.0 p split.lead (lead_ends split.lead [] y parts) from)
           ∙ ap (λ t. cond (t && is_lt (cmp p y.1.end)) (Some y) None) from
 
     -- stretches that end at a point at the latest
@@ -123,7 +123,7 @@ module _ {K V : Type 0} (cmp : K → K → Ordering) where
       pick true x y r q v h = ap Some v
       pick false x y r q v h = h
 
-      -- points ahead of that one keep their values
+      -- points before that one keep their values
       pub value_ended : (p : K) (s : List (K × Stretch K V)) → cmp p a ≡ Less → value_at_point cmp (map (ended cmp a) s) p ≡ value_at_point cmp s p
       value_ended p [] l = refl
       value_ended p (e ∷ s) l = ap (λ b. option_map (λ x. x.1.value) (cond b (Some (ended cmp a e)) (stretch_at cmp (map (ended cmp a) s) p)))

@@ -86,7 +86,7 @@ module _ {K V : Type 0} (cmp : K → K → Ordering) (o : IsTotalOrder cmp) (fro
       go true l more h = absurd cc
       go false l more h = (side (cmp e.0 from) refl l, more h)
 
-  -- from there on, those that start ahead of an end are those that overlap
+  -- from there on, those that start before an end are those that overlap
   pub walked : (f to : K) (s : List (K × Stretch K V)) → cmp from to ≡ Less → Begins f s
       → within cmp (Included f) (Excluded to) s ≡ overlapping cmp s from to
   walked f to s range b = kept_alike _ _ s (all_map _ _ (λ e h. ap (λ t. t && is_lt (cmp e.0 to)) h
@@ -112,9 +112,9 @@ module _ {K : Type 0} (cmp : K → K → Ordering) (o : IsTotalOrder cmp) where
       go true h = refl
       go false h = ap (λ t. t || holds p more) (sym (nowhere a b p h))
 
-  first_behind : (a b : K) (more : List (Range K)) → AllByRecursion (λ g. is_le (cmp a g.start) ≡ true) more
+  first_after : (a b : K) (more : List (Range K)) → AllByRecursion (λ g. is_le (cmp a g.start) ≡ true) more
       → AllByRecursion (λ g. is_le (cmp a g.start) ≡ true) (with_range cmp a b more)
-  first_behind a b more h = elim (is_lt (cmp a b)) as (λ t. AllByRecursion (λ g. is_le (cmp a g.start) ≡ true)
+  first_after a b more h = elim (is_lt (cmp a b)) as (λ t. AllByRecursion (λ g. is_le (cmp a g.start) ≡ true)
       (cond t ((let r : Range K = record { start = a; end = b } in r) ∷ more) more)) [ true ↦ (ap is_le (tied_itself o a), h) | false ↦ h ]
 
   first_separate : (a b : K) (more : List (Range K)) → AllByRecursion (λ g. cmp b g.start ≡ Less) more → AreSeparate cmp more
@@ -129,50 +129,50 @@ or_none : (b : Bool) → (b || false) ≡ (b && true)
 or_none true = refl
 or_none false = refl
 
--- a point ahead of a stretch, in it or behind it
+-- a point before a stretch, in it or after it
 around : {X : Type 0} (e : X) (S : Option X) (A B C D E F : Bool) → (B ≡ true → (C ≡ false) × (D ≡ true) × (E ≡ false) × (S ≡ None))
     → (B ≡ false → E ≡ true) → (C ≡ true → (A ≡ true) × (F ≡ false)) → (C ≡ false → F ≡ true)
     → ((A && B) || ((C && D) && is_none S)) ≡ ((A && D) && is_none (cond (E && F) (Some e) S))
 around e S A B C D E F h i j k = grind arith
 
 module _ {K V : Type 0} (cmp : K → K → Ordering) (o : IsTotalOrder cmp) (to : K) where
-  -- all of the stretches end behind a point, and start ahead of the end of the range
-  abbrev pub EndBehind : K → List (K × Stretch K V) → Type 0
-  EndBehind a s = AllByRecursion (λ e. cmp a e.1.end ≡ Less) s
+  -- all of the stretches end after a point, and start before the end of the range
+  abbrev pub EndAfter : K → List (K × Stretch K V) → Type 0
+  EndAfter a s = AllByRecursion (λ e. cmp a e.1.end ≡ Less) s
 
-  abbrev pub StartAhead : List (K × Stretch K V) → Type 0
-  StartAhead s = AllByRecursion (λ e. cmp e.0 to ≡ Less) s
+  abbrev pub StartBefore : List (K × Stretch K V) → Type 0
+  StartBefore s = AllByRecursion (λ e. cmp e.0 to ≡ Less) s
 
-  end_behind : (n : K) (s : List (K × Stretch K V)) → AreApart cmp s → StartFrom cmp n s → EndBehind n s
-  end_behind n [] a starts = tt
-  end_behind n (e ∷ s) a starts = (le_less o n e.0 e.1.end starts.0 a.0, end_behind n s a.2 starts.1)
+  end_after : (n : K) (s : List (K × Stretch K V)) → AreApart cmp s → StartFrom cmp n s → EndAfter n s
+  end_after n [] a starts = tt
+  end_after n (e ∷ s) a starts = (le_less o n e.0 e.1.end starts.0 a.0, end_after n s a.2 starts.1)
 
-  pub gap_points : (p a : K) (s : List (K × Stretch K V)) → AreApart cmp s → EndBehind a s → StartAhead s
+  pub gap_points : (p a : K) (s : List (K × Stretch K V)) → AreApart cmp s → EndAfter a s → StartBefore s
       → holds cmp o p (uncovered cmp a to s) ≡ (lies cmp a to p && is_none (stretch_at cmp s p))
-  gap_points p a [] h behind starts = held_first cmp o a to p [] ∙ or_none (lies cmp a to p)
-  gap_points p a (e ∷ s) h behind starts =
+  gap_points p a [] h after starts = held_first cmp o a to p [] ∙ or_none (lies cmp a to p)
+  gap_points p a (e ∷ s) h after starts =
       held_first cmp o a e.0 p (uncovered cmp e.1.end to s)
-      ∙ ap (λ t. lies cmp a e.0 p || t) (gap_points p e.1.end s h.2 (end_behind e.1.end s h.2 h.1) starts.1)
+      ∙ ap (λ t. lies cmp a e.0 p || t) (gap_points p e.1.end s h.2 (end_after e.1.end s h.2 h.1) starts.1)
       ∙ around e (stretch_at cmp s p)
       (is_le (cmp a p)) (is_lt (cmp p e.0)) (is_le (cmp e.1.end p)) (is_lt (cmp p to)) (is_le (cmp e.0 p)) (is_lt (cmp p e.1.end))
       (λ b. let less : cmp p e.0 ≡ Less = is_less _ b in
       let inner : cmp p e.1.end ≡ Less = o.trans p e.0 e.1.end less h.0 in
       (not_le_from_less o p e.1.end inner, ap is_lt (o.trans p e.0 to less starts.0), not_le_from_less o p e.0 less, yet_to_come cmp o e.1.end p s h.1 inner))
       (λ b. le_from_not_lt o p e.0 b)
-      (λ c. (ap is_le (less_le o a e.1.end p behind.0 c), not_lt_from_le o e.1.end p c))
+      (λ c. (ap is_le (less_le o a e.1.end p after.0 c), not_lt_from_le o e.1.end p c))
       (λ c. lt_from_not_le o e.1.end p c)
 
-  -- the gaps from a point on start there or behind
-  start_behind : (a : K) (s : List (K × Stretch K V)) → AreApart cmp s → EndBehind a s
+  -- the gaps from a point on start there or after
+  start_after : (a : K) (s : List (K × Stretch K V)) → AreApart cmp s → EndAfter a s
       → AllByRecursion (λ g. is_le (cmp a g.start) ≡ true) (uncovered cmp a to s)
-  start_behind a [] h behind = first_behind cmp o a to [] tt
-  start_behind a (e ∷ s) h behind = first_behind cmp o a e.0 _ (all_map _ _ (λ g l. le_le o a e.1.end g.start (ap is_le behind.0) l) _
-      (start_behind e.1.end s h.2 (end_behind e.1.end s h.2 h.1)))
+  start_after a [] h after = first_after cmp o a to [] tt
+  start_after a (e ∷ s) h after = first_after cmp o a e.0 _ (all_map _ _ (λ g l. le_le o a e.1.end g.start (ap is_le after.0) l) _
+      (start_after e.1.end s h.2 (end_after e.1.end s h.2 h.1)))
 
   gaps_separate : (a : K) (s : List (K × Stretch K V)) → AreApart cmp s → AreSeparate cmp (uncovered cmp a to s)
   gaps_separate a [] h = first_separate cmp o a to [] tt tt
   gaps_separate a (e ∷ s) h = first_separate cmp o a e.0 _ (all_map _ _ (λ g l. less_le o e.0 e.1.end g.start h.0 l) _
-      (start_behind e.1.end s h.2 (end_behind e.1.end s h.2 h.1))) (gaps_separate e.1.end s h.2)
+      (start_after e.1.end s h.2 (end_after e.1.end s h.2 h.1))) (gaps_separate e.1.end s h.2)
 
   module _ (from : K) (s : List (K × Stretch K V)) where
     -- a point of the range lies in those that overlap it just where it lies in any
@@ -183,9 +183,9 @@ module _ {K V : Type 0} (cmp : K → K → Ordering) (o : IsTotalOrder cmp) (to 
     gaps_are a held is =
         let apart : AreApart cmp held = subst (AreApart cmp) (sym is) (apart_kept cmp (meets cmp from to) s a) in
         let meet = subst (AllByRecursion (λ e. meets cmp from to e ≡ true)) (sym is) (all_pass (meets cmp from to) s) in
-        let ends : EndBehind from held =
+        let ends : EndAfter from held =
         all_map _ _ (λ e h. is_less _ (and_left (is_lt (cmp from e.1.end)) _ (and_right (is_lt (cmp from to)) _ h))) held meet in
-        let starts : StartAhead held =
+        let starts : StartBefore held =
         all_map _ _ (λ e h. is_less _ (and_right (is_lt (cmp from e.1.end)) _ (and_right (is_lt (cmp from to)) _ h))) held meet in
         record {
           separate = gaps_separate from held apart;

@@ -19,13 +19,13 @@ use Rattle.fc_base.specs.Viewed.{over_one, own_order}
 use Rattle.fc_base.proofs.AscendingFacts.{all_map, all_below}
 use Rattle.fc_base.proofs.JoinedLaws.{halves_joined}
 use Rattle.fc_laws.specs.Words.{last_item}
-use Rattle.fc_intervals.specs.Steps.{ahead, ended, EndsBy, IsRest, starting}
+use Rattle.fc_intervals.specs.Steps.{before, ended, EndsBy, IsRest, starting}
 use Rattle.fc_intervals.specs.Stretches.{AreApart, IsKept, IsWritten, lies, stretch_at, value_at_point}
 use Rattle.fc_intervals.specs.declared.stretch.Stretch.{Stretch}
 use Rattle.fc_intervals.proofs.Lists.{EndsIn, and_false, and_left, and_right, all_joined, all_at, all_over, all_pass, kept, left_out, not_found, found_in}
-use Rattle.fc_intervals.proofs.Lists.{filters_both, found_behind, found_ahead, no_last, last_is, ends_in}
+use Rattle.fc_intervals.proofs.Lists.{filters_both, found_after, found_before, no_last, last_is, ends_in}
 use Rattle.fc_intervals.proofs.Order.{is_less, le_from_not_lt, not_lt_from_le, le_from_ge, less_le, le_less, le_le}
-use Rattle.fc_intervals.proofs.Points.{EndBy, StartFrom, apart_kept, lead_ends, apart_rest, apart_ascend, apart_joined, past, yet_to_come, end_by_ended}
+use Rattle.fc_intervals.proofs.Points.{EndBy, StartFrom, apart_kept, lead_ends, apart_rest, apart_ascend, apart_joined, ended_before, yet_to_come, end_by_ended}
 use Rattle.fc_intervals.proofs.Points.{apart_ended, nothing_ended, value_ended}
 
 -- a pair that is put between those below its key and those above it
@@ -70,18 +70,18 @@ ends_by {K} {V} cmp o s apart a h = go (last_item s) refl h
 -- the three ways in which the last of the stretches that start before a point is ended
 module _ {K V : Type 0} (cmp : K → K → Ordering) (o : IsTotalOrder cmp) (s : List (K × Stretch K V)) (ascends : IsAscending cmp s) (a : K)
     (apart : AreApart cmp (below cmp s a)) where
-  ended_all : EndBy cmp a (below cmp s a) → s ≡ ahead cmp s a ++ not_below cmp s a
+  ended_all : EndBy cmp a (below cmp s a) → s ≡ before cmp s a ++ not_below cmp s a
   ended_all h = sym (halves_joined cmp cmp s a (own_order o) ascends) ∙ ap (λ l. l ++ not_below cmp s a) (sym (nothing_ended cmp o a (below cmp s a) h))
 
-  pub end_none : below cmp s a ≡ [] → s ≡ ahead cmp s a ++ not_below cmp s a
+  pub end_none : below cmp s a ≡ [] → s ≡ before cmp s a ++ not_below cmp s a
   end_none e = ended_all (subst (EndBy cmp a) (sym e) tt)
 
   module _ (lead : List (K × Stretch K V)) (p : K × Stretch K V) (last : below cmp s a ≡ lead ++ p ∷ []) where
-    pub end_kept : is_lt (cmp a p.1.end) ≡ false → s ≡ ahead cmp s a ++ not_below cmp s a
+    pub end_kept : is_lt (cmp a p.1.end) ≡ false → s ≡ before cmp s a ++ not_below cmp s a
     end_kept h = ended_all (ends_by cmp o (below cmp s a) apart a (subst (EndsBy cmp a) (sym (ap last_item last ∙ last_is lead p)) h))
 
     pub end_written : is_lt (cmp a p.1.end) ≡ true
-        → lead ++ (p.0, let x : Stretch K V = record { end = a; value = p.1.value } in x) ∷ not_below cmp s a ≡ ahead cmp s a ++ not_below cmp s a
+        → lead ++ (p.0, let x : Stretch K V = record { end = a; value = p.1.value } in x) ∷ not_below cmp s a ≡ before cmp s a ++ not_below cmp s a
     end_written h =
         let parts : AreApart cmp (lead ++ p ∷ []) = subst (AreApart cmp) last apart in
         let less : cmp p.0 a ≡ Less = all_at _ lead [] p (subst (AllByRecursion (λ x. cmp x.0 a ≡ Less)) last (all_below cmp s a)) in
@@ -95,7 +95,7 @@ module _ {K V : Type 0} (cmp : K → K → Ordering) (o : IsTotalOrder cmp) (s :
         )
 
 -- what starts before a point, ended there, still starts before it
-pub front_less : {K V : Type 0} (cmp : K → K → Ordering) (s : List (K × Stretch K V)) (a : K) → AllByRecursion (λ e. cmp e.0 a ≡ Less) (ahead cmp s a)
+pub front_less : {K V : Type 0} (cmp : K → K → Ordering) (s : List (K × Stretch K V)) (a : K) → AllByRecursion (λ e. cmp e.0 a ≡ Less) (before cmp s a)
 front_less cmp s a = all_over (λ e. cmp e.0 a ≡ Less) (ended cmp a) (below cmp s a) (all_below cmp s a)
 
 module _ {K V : Type 0} (cmp : K → K → Ordering) (o : IsTotalOrder cmp) (s : List (K × Stretch K V)) (apart : AreApart cmp s) where
@@ -105,7 +105,7 @@ module _ {K V : Type 0} (cmp : K → K → Ordering) (o : IsTotalOrder cmp) (s :
   pub start_from : (b : K) → StartFrom cmp b (not_below cmp s b)
   start_from b = all_map _ _ (λ e h. le_from_ge o e.0 b h) _ (all_pass (λ e. is_ge (cmp e.0 b)) s)
 
-  -- the last that starts before a point, where it goes on behind it
+  -- the last that starts before a point, where it goes on after it
   module _ (b : K) (y : K × Stretch K V) (last : last_item (below cmp s b) ≡ Some y) (on : cmp b y.1.end ≡ Less) where
     split : EndsIn (below cmp s b) y
     split = ends_in (below cmp s b) y last
@@ -122,17 +122,18 @@ module _ {K V : Type 0} (cmp : K → K → Ordering) (o : IsTotalOrder cmp) (s :
     less_last : cmp y.0 b ≡ Less
     less_last = all_at _ (split).lead [] y (subst (AllByRecursion (λ x. cmp x.0 b ≡ Less)) (split).is (all_below cmp s b))
 
-    pub behind_greater : AllByRecursion (λ e. cmp e.0 b ≡ Greater) (not_below cmp s b)
-    behind_greater = all_map _ _ (λ e l. over_one cmp o b e.0 (less_le o b y.1.end e.0 on l)) (not_below cmp s b) (from_last).1
+    pub after_greater : AllByRecursion (λ e. cmp e.0 b ≡ Greater) (not_below cmp s b)
+    after_greater = all_map _ _ (λ e l. over_one cmp o b e.0 (less_le o b y.1.end e.0 on l)) (not_below cmp s b) (from_last).1
 
     pub at_last : (p : K) → is_le (cmp b p) ≡ true → stretch_at cmp s p ≡ cond (is_lt (cmp p y.1.end)) (Some y) (stretch_at cmp (not_below cmp s b) p)
     at_last p l =
         let from : is_le (cmp y.0 p) ≡ true = ap is_le (less_le o y.0 b p less_last l) in
         ap (λ t. stretch_at cmp t p) (sym whole)
-        ∙ found_behind _ (split).lead (y ∷ not_below cmp s b) (past cmp o y.0 p (split).lead (lead_ends cmp (split).lead (not_below cmp s b) y parts) from)
+        ∙ found_after _ (split).lead (y ∷ not_below cmp s b)
+        (ended_before cmp o y.0 p (split).lead (lead_ends cmp (split).lead (not_below cmp s b) y parts) from)
         ∙ ap (λ t. cond (t && is_lt (cmp p y.1.end)) (Some y) (stretch_at cmp (not_below cmp s b) p)) from
 
-  -- the rest behind a point, and what starts behind it
+  -- the rest after a point, and what starts after it
   module _ (same : V → V → Type 0) (b : K) where
     kept_pick : (t : Bool) (x z : K × Stretch K V) (q : Option (K × Stretch K V)) → same x.1.value z.1.value
         → IsKept same (option_map (λ e. e.1.value) (cond t (Some x) q)) (option_map (λ e. e.1.value) (cond t (Some z) q))
@@ -158,8 +159,8 @@ module _ {K V : Type 0} (cmp : K → K → Ordering) (o : IsTotalOrder cmp) (s :
     rest_value None h p l =
         let e : value_at_point cmp s p ≡ value_at_point cmp (not_below cmp s b) p =
         ap (option_map (λ (x : K × Stretch K V). x.1.value)) (ap (λ t. stretch_at cmp t p) (sym (halves b))
-        ∙ found_behind _ (below cmp s b) (not_below cmp s b)
-        (past cmp o b p (below cmp s b) (ends_by cmp o (below cmp s b) (apart_kept cmp _ s apart) b h) l)) in
+        ∙ found_after _ (below cmp s b) (not_below cmp s b)
+        (ended_before cmp o b p (below cmp s b) (ends_by cmp o (below cmp s b) (apart_kept cmp _ s apart) b h) l)) in
         subst (λ v. IsKept same v (value_at_point cmp (not_below cmp s b) p)) (sym e) (kept_same same (value_at_point cmp (not_below cmp s b) p))
     rest_value (Some r) h p l =
         let others = stretch_at cmp (not_below cmp s b) p in
@@ -174,14 +175,14 @@ module _ {K V : Type 0} (cmp : K → K → Ordering) (o : IsTotalOrder cmp) (s :
 
   -- what starts before a point, ended there
   module _ (a : K) where
-    pub front : AreApart cmp (ahead cmp s a)
+    pub front : AreApart cmp (before cmp s a)
     front = apart_ended cmp o a (below cmp s a) (apart_kept cmp _ s apart) (all_below cmp s a)
 
-    pub front_ends : EndBy cmp a (ahead cmp s a)
+    pub front_ends : EndBy cmp a (before cmp s a)
     front_ends = end_by_ended cmp o a (below cmp s a)
 
-    value_ahead : (p : K) → cmp p a ≡ Less → value_at_point cmp (ahead cmp s a) p ≡ value_at_point cmp s p
-    value_ahead p l = value_ended cmp o a p (below cmp s a) l ∙ ap (option_map (λ (x : K × Stretch K V). x.1.value))
+    value_before : (p : K) → cmp p a ≡ Less → value_at_point cmp (before cmp s a) p ≡ value_at_point cmp s p
+    value_before p l = value_ended cmp o a p (below cmp s a) l ∙ ap (option_map (λ (x : K × Stretch K V). x.1.value))
         (found_in (λ e. lies cmp e.0 e.1.end p) (λ e. is_lt (cmp e.0 a)) (λ e h. ap is_lt (le_less o e.0 p a (and_left (is_le (cmp e.0 p)) _ h) l)) s)
 
     module _ (b : K) (upto : is_le (cmp a b) ≡ true) where
@@ -192,24 +193,24 @@ module _ {K V : Type 0} (cmp : K → K → Ordering) (o : IsTotalOrder cmp) (s :
         from_start : StartFrom cmp a back
         from_start = all_map _ _ (λ e h. le_le o a b e.0 upto h) back (rest_from same b rest)
 
-        pub cut_apart : AreApart cmp (ahead cmp s a ++ back)
-        cut_apart = apart_joined cmp o a (ahead cmp s a) back front front_ends (rest_apart same b rest is_rest) from_start
+        pub cut_apart : AreApart cmp (before cmp s a ++ back)
+        cut_apart = apart_joined cmp o a (before cmp s a) back front front_ends (rest_apart same b rest is_rest) from_start
 
-        pub cut_written : IsWritten cmp same a b None s (ahead cmp s a ++ back)
+        pub cut_written : IsWritten cmp same a b None s (before cmp s a ++ back)
         cut_written = record {
           inside = λ p h. ap (option_map (λ (x : K × Stretch K V). x.1.value))
-              (found_behind _ (ahead cmp s a) back (past cmp o a p (ahead cmp s a) front_ends (and_left (is_le (cmp a p)) _ h))
+              (found_after _ (before cmp s a) back (ended_before cmp o a p (before cmp s a) front_ends (and_left (is_le (cmp a p)) _ h))
               ∙ yet_to_come cmp o b p back (rest_from same b rest) (is_less _ (and_right (is_le (cmp a p)) _ h)));
-          ahead = λ p l. ap (option_map (λ (x : K × Stretch K V). x.1.value))
-              (found_ahead _ (ahead cmp s a) back (yet_to_come cmp o b p back (rest_from same b rest) (less_le o p a b l upto))) ∙ value_ahead p l;
-          behind = λ p l. subst (λ v. IsKept same (value_at_point cmp s p) v) (sym (ap (option_map (λ (x : K × Stretch K V). x.1.value))
-              (found_behind _ (ahead cmp s a) back (past cmp o a p (ahead cmp s a) front_ends (le_le o a b p upto l)))))
+          before = λ p l. ap (option_map (λ (x : K × Stretch K V). x.1.value))
+              (found_before _ (before cmp s a) back (yet_to_come cmp o b p back (rest_from same b rest) (less_le o p a b l upto))) ∙ value_before p l;
+          after = λ p l. subst (λ v. IsKept same (value_at_point cmp s p) v) (sym (ap (option_map (λ (x : K × Stretch K V). x.1.value))
+              (found_after _ (before cmp s a) back (ended_before cmp o a p (before cmp s a) front_ends (le_le o a b p upto l)))))
               (rest_value same b rest is_rest p l);
         }
 
         module _ (range : cmp a b ≡ Less) (g : Stretch K V) where
-          put_given : put cmp (ahead cmp s a ++ back) a g ≡ ahead cmp s a ++ (a, g) ∷ back
-          put_given = put_between cmp (ahead cmp s a) back a g (front_less cmp s a)
+          put_given : put cmp (before cmp s a ++ back) a g ≡ before cmp s a ++ (a, g) ∷ back
+          put_given = put_between cmp (before cmp s a) back a g (front_less cmp s a)
               (all_map _ _ (λ e h. over_one cmp o a e.0 (less_le o a b e.0 range h)) back (rest_from same b rest))
 
         -- the range and a value, at a key that is equal to its start
@@ -223,25 +224,25 @@ module _ {K V : Type 0} (cmp : K → K → Ordering) (o : IsTotalOrder cmp) (s :
           from_key : is_le (cmp a key) ≡ true
           from_key = ap is_le (o.antisymm a key ∙ ap ordering_reverse tied)
 
-          put_apart : AreApart cmp (ahead cmp s a ++ given ∷ back)
-          put_apart = apart_joined cmp o a (ahead cmp s a) (given ∷ back) front front_ends
+          put_apart : AreApart cmp (before cmp s a ++ given ∷ back)
+          put_apart = apart_joined cmp o a (before cmp s a) (given ∷ back) front front_ends
               (before_end, rest_from same b rest, rest_apart same b rest is_rest) (from_key, from_start)
 
-          put_written : IsWritten cmp same a b (Some v) s (ahead cmp s a ++ given ∷ back)
+          put_written : IsWritten cmp same a b (Some v) s (before cmp s a ++ given ∷ back)
           put_written = record {
             inside = λ p h. ap (option_map (λ (x : K × Stretch K V). x.1.value))
-                (found_behind _ (ahead cmp s a) (given ∷ back) (past cmp o a p (ahead cmp s a) front_ends (and_left (is_le (cmp a p)) _ h))
+                (found_after _ (before cmp s a) (given ∷ back) (ended_before cmp o a p (before cmp s a) front_ends (and_left (is_le (cmp a p)) _ h))
                 ∙ ap (λ t. cond t (Some given) (stretch_at cmp back p)) (ap (λ r. is_le r && is_lt (cmp p b)) (o.congr key a p tied) ∙ h));
-            ahead = λ p l. ap (option_map (λ (x : K × Stretch K V). x.1.value))
-                (found_ahead _ (ahead cmp s a) (given ∷ back) (yet_to_come cmp o a p (given ∷ back) (from_key, from_start) l)) ∙ value_ahead p l;
-            behind = λ p l. subst (λ u. IsKept same (value_at_point cmp s p) u) (sym (ap (option_map (λ (x : K × Stretch K V). x.1.value))
-                (found_behind _ (ahead cmp s a) (given ∷ back) (past cmp o a p (ahead cmp s a) front_ends (ap is_le (less_le o a b p range l)))
+            before = λ p l. ap (option_map (λ (x : K × Stretch K V). x.1.value))
+                (found_before _ (before cmp s a) (given ∷ back) (yet_to_come cmp o a p (given ∷ back) (from_key, from_start) l)) ∙ value_before p l;
+            after = λ p l. subst (λ u. IsKept same (value_at_point cmp s p) u) (sym (ap (option_map (λ (x : K × Stretch K V). x.1.value))
+                (found_after _ (before cmp s a) (given ∷ back) (ended_before cmp o a p (before cmp s a) front_ends (ap is_le (less_le o a b p range l)))
                 ∙ ap (λ t. cond (is_le (cmp key p) && t) (Some given) (stretch_at cmp back p)) (not_lt_from_le o b p l)
                 ∙ ap (λ t. cond t (Some given) (stretch_at cmp back p)) (and_false (is_le (cmp key p))))))
                 (rest_value same b rest is_rest p l);
           }
 
-          pub put_all : (u : List (K × Stretch K V)) → u ≡ ahead cmp s a ++ given ∷ back → AreApart cmp u × IsWritten cmp same a b (Some v) s u
+          pub put_all : (u : List (K × Stretch K V)) → u ≡ before cmp s a ++ given ∷ back → AreApart cmp u × IsWritten cmp same a b (Some v) s u
           put_all u is = (subst (AreApart cmp) (sym is) put_apart, subst (IsWritten cmp same a b (Some v) s) (sym is) put_written)
 
   -- a range in which no stretch goes on, since the last that starts before its end ends by its start
@@ -253,8 +254,8 @@ module _ {K V : Type 0} (cmp : K → K → Ordering) (o : IsTotalOrder cmp) (s :
     no_rest None h = tt
     no_rest (Some y) h = not_lt_from_le o y.1.end b (ap is_le (le_less o y.1.end a b (le_from_not_lt o a y.1.end h) range))
 
-    pub free_behind : IsRest cmp same s b None
-    free_behind = no_rest (last_item (below cmp s b)) by
+    pub free_after : IsRest cmp same s b None
+    free_after = no_rest (last_item (below cmp s b)) by
 
     start_before : (l : List (K × Stretch K V)) → AreApart cmp l → EndBy cmp a l → AllByRecursion (λ e. is_lt (cmp e.0 a) ≡ true) l
     start_before [] h e = tt
@@ -269,14 +270,14 @@ module _ {K V : Type 0} (cmp : K → K → Ordering) (o : IsTotalOrder cmp) (s :
     one_front = sym (kept (λ e. is_lt (cmp e.0 a)) (below cmp s b) (start_before (below cmp s b) (apart_kept cmp _ s apart) all_by))
         ∙ filters_both (λ e. is_lt (cmp e.0 b)) (λ e. is_lt (cmp e.0 a)) (λ e. is_lt (cmp e.0 a)) (λ e. both e (cmp e.0 a) refl) s
 
-    free : s ≡ ahead cmp s a ++ not_below cmp s b
+    free : s ≡ before cmp s a ++ not_below cmp s b
     free = sym (halves b) ∙ ap (λ l. l ++ not_below cmp s b) (sym (nothing_ended cmp o a (below cmp s b) all_by) ∙ ap (map (ended cmp a)) one_front)
 
     pub put_free : (g : Stretch K V) → g.end ≡ b → (u : List (K × Stretch K V)) → u ≡ put cmp s a g → AreApart cmp u × IsWritten cmp same a b (Some g.value) s u
     put_free g end u is =
-        put_all a b (ap is_le range) same None free_behind range g.value a (tied_itself o a) u
-        (is ∙ ap (λ l. put cmp l a g) free ∙ put_given a b (ap is_le range) same None free_behind range g
-        ∙ ap (λ e. ahead cmp s a ++ (a, let x : Stretch K V = record { end = e; value = g.value } in x) ∷ not_below cmp s b) end)
+        put_all a b (ap is_le range) same None free_after range g.value a (tied_itself o a) u
+        (is ∙ ap (λ l. put cmp l a g) free ∙ put_given a b (ap is_le range) same None free_after range g
+        ∙ ap (λ e. before cmp s a ++ (a, let x : Stretch K V = record { end = e; value = g.value } in x) ∷ not_below cmp s b) end)
 
 -- what an empty range leaves as it is
 pub empty_written : {K V : Type 0} (cmp : K → K → Ordering) (o : IsTotalOrder cmp) (same : V → V → Type 0) (a b : K) (v : Option V)
@@ -287,6 +288,6 @@ empty_written cmp o same a b v s empty = record {
       let no : true ≡ false = sym (ap is_lt less) ∙ empty in
       cc
       );
-  ahead = λ p l. refl;
-  behind = λ p l. kept_same same (value_at_point cmp s p);
+  before = λ p l. refl;
+  after = λ p l. kept_same same (value_at_point cmp s p);
 }

@@ -11,7 +11,7 @@ use Rattle.fc_intervals.specs.declared.stretch.Stretch.{Stretch}
 pub record IsDrawnOut {K V : Type 0} (cmp : K → K → Ordering) (a : K) (s : List (K × Stretch K V)) (end : K) (new : List (K × Stretch K V)) : Type 0 where
   pub lead : List (K × Stretch K V)
   pub last : K × Stretch K V
-  pub ahead : below cmp s a ≡ lead ++ last ∷ []
+  pub before : below cmp s a ≡ lead ++ last ∷ []
   pub is : new ≡ lead ++ (last.0, record { end = end; value = last.1.value }) ∷ not_below cmp s a
 
 module _ {K V : Type 0} (cmp : K → K → Ordering) (eq : V → V → Bool) (a : K) (s : List (K × Stretch K V)) where
@@ -28,7 +28,7 @@ module _ {K V : Type 0} (cmp : K → K → Ordering) (eq : V → V → Bool) (a 
     pub second : Stretch K V
     pub joint : AreJoint first second
     pub lead : List (K × Stretch K V)
-    pub ahead : below cmp s a ≡ lead ++ first ∷ []
+    pub before : below cmp s a ≡ lead ++ first ∷ []
     pub is : new ≡ lead ++ (first.0, record { end = second.end; value = first.1.value }) ∷ above cmp s a
 
   -- No two stretches are such.

@@ -10,20 +10,20 @@ use Rattle.fc_laws.specs.Words.{last_item}
 use Rattle.fc_intervals.specs.declared.stretch.Stretch.{Stretch}
 
 module _ {K V : Type 0} (cmp : K → K → Ordering) where
-  -- The stretch, which ends at the point where it went on behind it.
+  -- The stretch, which ends at the point where it went on after it.
   abbrev pub ended : K → K × Stretch K V → K × Stretch K V
   ended a e = (e.0, record { end = cond (is_lt (cmp a e.1.end)) a e.1.end; value = e.1.value })
 
   -- The stretches that start before a point, and end there at the latest.
-  abbrev pub ahead : List (K × Stretch K V) → K → List (K × Stretch K V)
-  ahead s a = map (ended a) (below cmp s a)
+  abbrev pub before : List (K × Stretch K V) → K → List (K × Stretch K V)
+  before s a = map (ended a) (below cmp s a)
 
   -- The last stretch that starts before a point ends there or before.
   abbrev pub EndsBy : K → Option (K × Stretch K V) → Type 0
   EndsBy b None = Unit {0}
   EndsBy b (Some y) = is_lt (cmp b y.1.end) ≡ false
 
-  -- What goes on behind a point, where the last stretch that starts before it does: its end, and a copy of its value.
+  -- What goes on after a point, where the last stretch that starts before it does: its end, and a copy of its value.
   abbrev pub IsRest : (V → V → Type 0) → List (K × Stretch K V) → K → Option (Stretch K V) → Type 0
   IsRest same s b None = EndsBy b (last_item (below cmp s b))
   IsRest same s b (Some r) = (y : K × Stretch K V) × (last_item (below cmp s b) ≡ Some y) × (is_lt (cmp b y.1.end) ≡ true) × (r.end ≡ y.1.end) × same y.1.value r.value
@@ -33,20 +33,20 @@ abbrev pub starting : {K V : Type 0} → K → Option (Stretch K V) → List (K 
 starting b None = []
 starting b (Some r) = (b, r) ∷ []
 
--- What goes on behind a point starts there too, as a copy, where something does. A cut there takes it out again.
+-- What goes on after a point starts there too, as a copy, where something does. A cut there takes it out again.
 pub record IsParted {K V : Type 0} (cmp : K → K → Ordering) (same : V → V → Type 0) (at : K) (is_parted : Bool) (old new : List (K × Stretch K V)) : Type 0 where
   pub rest : Option (Stretch K V)
   pub is_rest : IsRest cmp same old at rest
   pub is : new ≡ below cmp old at ++ (starting at rest ++ not_below cmp old at)
   pub undone : cond is_parted (cut cmp new at) new ≡ old
 
--- The list after a range was cut out: what starts ahead of it, what goes on behind it, as a copy, and what starts behind it.
+-- The list after a range was cut out: what starts before it, what goes on after it, as a copy, and what starts after it.
 pub record IsCut {K V : Type 0} (cmp : K → K → Ordering) (same : V → V → Type 0) (from to : K) (old new : List (K × Stretch K V)) : Type 0 where
   pub rest : Option (Stretch K V)
   pub is_rest : IsRest cmp same old to rest
-  pub is : new ≡ ahead cmp old from ++ (starting to rest ++ not_below cmp old to)
+  pub is : new ≡ before cmp old from ++ (starting to rest ++ not_below cmp old to)
 
--- The range in front of others, if it is not empty.
+-- The range before others, if it is not empty.
 abbrev pub with_range : {K : Type 0} → (K → K → Ordering) → K → K → List (Range K) → List (Range K)
 with_range cmp from to more = cond (is_lt (cmp from to)) ((record { start = from; end = to }) ∷ more) more
 

@@ -54,11 +54,11 @@ abbrev pub IsKept : {V : Type 0} → (V → V → Type 0) → Option V → Optio
 IsKept same old new = SameContents (λ x y. (y ≡ x) ⊎ same x y) old new
 
 module _ {K V : Type 0} (cmp : K → K → Ordering) (same : V → V → Type 0) where
-  -- Each point of the range has the given value, or none where none is given. Each other point has what it had, behind the range the same or a copy.
+  -- Each point of the range has the given value, or none where none is given. Each other point has what it had, after the range the same or a copy.
   pub record IsWritten (from to : K) (value : Option V) (old new : List (K × Stretch K V)) : Type 0 where
     pub inside : (p : K) → lies cmp from to p ≡ true → value_at_point cmp new p ≡ value
-    pub ahead : (p : K) → cmp p from ≡ Less → value_at_point cmp new p ≡ value_at_point cmp old p
-    pub behind : (p : K) → is_le (cmp to p) ≡ true → IsKept same (value_at_point cmp old p) (value_at_point cmp new p)
+    pub before : (p : K) → cmp p from ≡ Less → value_at_point cmp new p ≡ value_at_point cmp old p
+    pub after : (p : K) → is_le (cmp to p) ≡ true → IsKept same (value_at_point cmp old p) (value_at_point cmp new p)
 
 -- The stretch that a range and a reference to its value show, where there is one.
 abbrev pub now_stretch : {K V : Type 0} → Option (Range K × Bor V) → Option (K × Stretch K V)

@@ -17,7 +17,7 @@ use std::alloc::Global;
 use std::marker::Model;
 use std::ops::Range;
 
-/// A map from points to values by half-open stretches: each holds its start and the points behind it up to its end, and not its end.
+/// A map from points to values by half-open stretches: each holds its start and the points after it up to its end, and not its end.
 /// No stretch is empty, and no two overlap. Only calls that answer a `Result` take memory.
 #[derive(Drop)]
 pub struct IntervalMap<K: Ord, V, A: Handle = Global> {
@@ -170,11 +170,11 @@ impl<K: Ord + Copy + Drop, V: PartialEq + Drop, A: Handle> IntervalMap<K, V, A> 
 
 impl<K: Ord + Copy + Drop, V: TryClone, A: Handle> IntervalMap<K, V, A> {
     /// Gives all points of a range, from its start up to, and without, its end, a value. Stretches that lie within the range are
-    /// dropped, those across its ends are cut, and one across both is split. What goes on behind the range has a copy of its value.
+    /// dropped, those across its ends are cut, and one across both is split. What goes on after the range has a copy of its value.
     /// An empty range has no points: nothing changes, no memory is taken, and the value is dropped.
     ///
     /// # Errors
-    /// Where the copy that goes on behind the range was refused, by its own error. Else where a place was, for what goes on, or then for the new stretch,
+    /// Where the copy that goes on after the range was refused, by its own error. Else where a place was, for what goes on, or then for the new stretch,
     /// which needs one unless a stretch starts where it does: by `CapacityOverflow` where there are `usize::MAX` stretches then, and always; or by
     /// `AllocError`, where memory for a node was refused. The map is then as it was, and the value comes back.
     pub fn put(&mut self, range: Range<K>, value: V) -> Result<(), (V, TryReserveError)>
@@ -207,11 +207,11 @@ impl<K: Ord + Copy + Drop, V: TryClone, A: Handle> IntervalMap<K, V, A> {
     }
 
     /// Takes the value of all points of a range, from its start up to, and without, its end. Stretches that lie within the range are
-    /// dropped, those across its ends are cut, and one across both is split. What goes on behind the range has a copy of its value.
+    /// dropped, those across its ends are cut, and one across both is split. What goes on after the range has a copy of its value.
     /// It takes memory only where something does. An empty range has no points: nothing changes.
     ///
     /// # Errors
-    /// Where the copy that goes on behind the range was refused, by its own error. Else where a place for it was: by `CapacityOverflow` where there are
+    /// Where the copy that goes on after the range was refused, by its own error. Else where a place for it was: by `CapacityOverflow` where there are
     /// `usize::MAX` stretches, and then always; or by `AllocError`, where memory for a node was refused. The map is then as it was.
     pub fn cut(&mut self, range: Range<K>) -> Result<(), TryReserveError>
         requires { V.can_clone }

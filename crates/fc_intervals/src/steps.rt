@@ -12,7 +12,7 @@ ghost use Rattle.fc_map.specs.Ranged.{outside};
 ghost use Rattle.fc_laws.specs.Words.{last_item};
 ghost use Rattle.fc_intervals.specs.Refusals.{MayRefuseAt, MayRefusePut, MayRefuseRest, parted_length, put_length, starts_at};
 ghost use Rattle.fc_intervals.specs.Stretches.{AreApart, IsLookUp, IsWritten, overlapping, stretch_at};
-ghost use Rattle.fc_intervals.specs.Steps.{ahead, EndsBy, IsCut, IsParted, IsRest};
+ghost use Rattle.fc_intervals.specs.Steps.{before, EndsBy, IsCut, IsParted, IsRest};
 
 use crate::stretch::Stretch;
 use fc_base::{Count, Handle, TryClone, TryReserveError, compare};
@@ -56,8 +56,8 @@ pub(crate) fn start_within<K: Ord + Copy, V, A: Handle>(
     }
 }
 
-/// What goes on behind a point, of the last stretch that starts before it: its end, and a copy of its value.
-pub(crate) fn rest_behind<K: Ord + Copy, V: TryClone, A: Handle>(
+/// What goes on after a point, of the last stretch that starts before it: its end, and a copy of its value.
+pub(crate) fn rest_after<K: Ord + Copy, V: TryClone, A: Handle>(
     map: &BTreeMap<K, Stretch<K, V>, A>,
     at: K,
 ) -> Result<Option<Stretch<K, V>>, TryReserveError>
@@ -111,7 +111,7 @@ fn put_in<K: Ord + Copy + Drop, V: Drop, A: Handle>(
     }
 }
 
-// Has what goes on behind a point start there too, and answers whether something does.
+// Has what goes on after a point start there too, and answers whether something does.
 fn part<K: Ord + Copy + Drop, V: TryClone, A: Handle>(
     map: &mut BTreeMap<K, Stretch<K, V>, A>,
     at: K,
@@ -125,7 +125,7 @@ fn part<K: Ord + Copy + Drop, V: TryClone, A: Handle>(
 {
     // Shows that the number of stretches is a usize.
     let _len = map.len();
-    let Some(rest) = rest_behind(map, at)? else {
+    let Some(rest) = rest_after(map, at)? else {
         return Ok(false);
     };
     if let Err((_, error)) = put_in(map, at, rest) {
@@ -134,10 +134,10 @@ fn part<K: Ord + Copy + Drop, V: TryClone, A: Handle>(
     Ok(true)
 }
 
-// Has the last stretch that starts before a point end there, where it goes on behind it.
+// Has the last stretch that starts before a point end there, where it goes on after it.
 fn end_at<K: Ord + Copy, V, A: Handle>(map: &mut BTreeMap<K, Stretch<K, V>, A>, at: K)
     requires { AreApart K.cmp (below K.cmp (entries map.old) at) }
-    ensures ended { entries map.new ≡ ahead K.cmp (entries map.old) at ++ not_below K.cmp (entries map.old) at }
+    ensures ended { entries map.new ≡ before K.cmp (entries map.old) at ++ not_below K.cmp (entries map.old) at }
 {
     if let Some(mut entry) = map.last_entry_before(&at) {
         if at.cmp(&entry.get().end).is_lt() {
@@ -154,7 +154,7 @@ fn put_parted<K: Ord + Copy + Drop, V: Drop, A: Handle>(
     is_parted: bool,
 ) -> Result<(), (V, TryReserveError)>
     requires { AreApart K.cmp (below K.cmp (entries map.old) from) }
-    ensures put { OnOk result (let s = with_pair K.cmp (entries map.old) from stretch in entries map.new ≡ outside K.cmp (Excluded from) (Excluded stretch.end) (ahead K.cmp s from ++ not_below K.cmp s from)) }
+    ensures put { OnOk result (let s = with_pair K.cmp (entries map.old) from stretch in entries map.new ≡ outside K.cmp (Excluded from) (Excluded stretch.end) (before K.cmp s from ++ not_below K.cmp s from)) }
     ensures undone { OnErr result (entries map.new ≡ cond is_parted (cut K.cmp (entries map.old) stretch.end) (entries map.old)) }
     ensures back { IfErr result (λ e. e.0 ≡ stretch.value) }
     ensures error { IfErr result (λ e. MayRefuseAt K.cmp (entries map.old) from (length (entries map.old)) e.1) }
@@ -172,7 +172,7 @@ fn put_parted<K: Ord + Copy + Drop, V: Drop, A: Handle>(
     Ok(())
 }
 
-// Puts a stretch in over others. What goes on behind it is put in first: no stretch is cut or dropped before all memory was taken.
+// Puts a stretch in over others. What goes on after it is put in first: no stretch is cut or dropped before all memory was taken.
 fn put_across<K: Ord + Copy + Drop, V: TryClone, A: Handle>(
     map: &mut BTreeMap<K, Stretch<K, V>, A>,
     from: K,
@@ -217,7 +217,7 @@ pub(crate) fn put<K: Ord + Copy + Drop, V: TryClone, A: Handle>(
     }
 }
 
-/// Leaves no stretch in a range: one that goes on into it ends there, those that start in it are dropped, and what goes on behind it
+/// Leaves no stretch in a range: one that goes on into it ends there, those that start in it are dropped, and what goes on after it
 /// starts there.
 pub(crate) fn clear<K: Ord + Copy + Drop, V: TryClone, A: Handle>(
     map: &mut BTreeMap<K, Stretch<K, V>, A>,

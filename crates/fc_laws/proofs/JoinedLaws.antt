@@ -17,7 +17,7 @@ use Rattle.fc_base.specs.Viewed.{own_order}
 use Rattle.fc_base.proofs.AscendingFacts.{at_key}
 use Rattle.fc_base.proofs.Laws.{at_query, at_put, at_put_other_query, at_cut}
 use Rattle.fc_base.proofs.JoinedLaws.{ascending_joined}
-use Rattle.fc_tree_merge.proofs.StableLaws.{none_behind, same_pairs}
+use Rattle.fc_tree_append.proofs.StableLaws.{none_after, same_pairs}
 use Rattle.fc_laws.proofs.NeighbourLaws.{below_cut, above_cut}
 
 module _ {K Q V : Type 0} (cmp : K → K → Ordering) (order : K → Q → Ordering) (total : IsTotalOrder cmp) (fits : IsQueryOrder cmp order) (q : Q) where
@@ -61,7 +61,7 @@ module _ {K Q V : Type 0} (cmp : K → K → Ordering) (order : K → Q → Orde
       go : (r : Ordering) → order e.0 q ≡ r → option_or (at order t q) (at order (placed cmp s e) q)
           ≡ option_or (cond (is_eq r) (Some e) (at order t q)) (at order s q)
       go Less i = ap (option_or (at order t q)) (placed_elsewhere cmp order total fits q s e (λ h. absurd (let no = sym i ∙ h in cc)))
-      go Equal i = rw (none_behind cmp order total fits q e t (ap is_lt i) a.0) (placed_there cmp order total fits q s e i)
+      go Equal i = rw (none_after cmp order total fits q e t (ap is_lt i) a.0) (placed_there cmp order total fits q s e i)
       go Greater i = ap (option_or (at order t q)) (placed_elsewhere cmp order total fits q s e (λ h. absurd (let no = sym i ∙ h in cc)))
 
   -- At a query stands in joined lists the value that stands there in the second, or else in the first.

@@ -7,3 +7,4 @@ pub mod OrderLaws
 pub mod PairLaws
 pub mod PlaceLaws
 pub mod RetainedLaws
+pub mod Counted

@@ -31,9 +31,9 @@ module _ {K V : Type 0} (cmp : K → K → Ordering) where
   -- At the key of each pair of an ascending list stands that pair.
   pub each_there : (s : List (K × V)) → IsTotalOrder cmp → IsAscending cmp s → AllByRecursion (λ e. at cmp s e.0 ≡ Some e) s
   each_there [] total a = tt
-  each_there (e ∷ s) total a = (rw (tied_itself total e.0) refl, behind s a.0 (each_there s total a.1))
+  each_there (e ∷ s) total a = (rw (tied_itself total e.0) refl, after s a.0 (each_there s total a.1))
     where
-      behind : (t : List (K × V)) → AllByRecursion (λ x. cmp e.0 x.0 ≡ Less) t → AllByRecursion (λ x. at cmp s x.0 ≡ Some x) t
+      after : (t : List (K × V)) → AllByRecursion (λ x. cmp e.0 x.0 ≡ Less) t → AllByRecursion (λ x. at cmp s x.0 ≡ Some x) t
           → AllByRecursion (λ x. at cmp (e ∷ s) x.0 ≡ Some x) t
-      behind [] l h = tt
-      behind (x ∷ t) l h = (rw l.0 h.0, behind t l.1 h.1)
+      after [] l h = tt
+      after (x ∷ t) l h = (rw l.0 h.0, after t l.1 h.1)

@@ -165,7 +165,7 @@ module _ {K Q V : Type 0} (cmp : K → K → Ordering) (order : K → Q → Orde
     where
       over : (r : Ordering) → order e.0 q ≡ r → is_ge r ≡ true → order y.0 q ≡ Greater
       over Less i n = absurd cc
-      over Equal i n = fits.past q e.0 y.0 a.0 i
+      over Equal i n = fits.after q e.0 y.0 a.0 i
       over Greater i n = fits.upper q e.0 y.0 a.0 i
 
   -- Where the first pair is not below a query, no pair is; where it is below, the others are left of those from there on.

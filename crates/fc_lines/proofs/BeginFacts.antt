@@ -7,7 +7,7 @@ use Rattle.std.proofs.lemmas.List.{take-append-le, length-take, take-append-drop
 use Rattle.fc_lines.specs.Texts.{IsBegun}
 
 module _ (old new a b : List ℕ) where
-  -- what was to come behind a beginning
+  -- what was to come after a beginning
   pub more_begun : IsBegun old a new → IsBegun old (a ++ b) new
   more_begun (least, is) =
       let short : length new ≤ length (old ++ a) = omega (arith, ap length is, length-take (length new) (old ++ a)) in
@@ -31,7 +31,7 @@ module _ {X : Type 0} (f : X → List ℕ) (xs : List X) (i : ℕ) (d : X) (h : 
   item_begun old mid new was b = subst (λ l. IsBegun old l new) (sym parted)
       (later_begun old new (flat_map f (take i xs)) _ mid was (more_begun mid new (f (get_or xs i d)) (flat_map f (drop (suc i) xs)) b))
 
-  -- behind words, and before others
+  -- after words, and before others
   pub item_begun_between : (old mid new words after : List ℕ) → mid ≡ (old ++ words) ++ flat_map f (take i xs) → IsBegun mid (f (get_or xs i d)) new
       → IsBegun old (words ++ (flat_map f xs ++ after)) new
   item_begun_between old mid new words after was b =

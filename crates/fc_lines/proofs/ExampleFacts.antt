@@ -65,7 +65,7 @@ unfolding command_of command_of_words on_one_of on_map_of walk_of steps_of write
 walk_commands = refl
 
 -- Another letter, a space in a write, no ends, a bare number as a bound, a bound without its number, no writes, a write without its
--- number, another end, another map, a number that is too great, and words behind the letters.
+-- number, another end, another map, a number that is too great, and words after the letters.
 bad_walks : map command_of (codes "walk a * * fx" ∷ codes "write a * * f 1" ∷ codes "walk a * *" ∷ codes "walk a * * " ∷ codes "walk a 5 * f"
     ∷ codes "walk a = * f" ∷ codes "walk a =  * f" ∷ codes "walk a ** * f" ∷ codes "write a * *" ∷ codes "write a * * f=" ∷ codes "write a * * g=1"
     ∷ codes "write a * * f=1 " ∷ codes "walk c * * f" ∷ codes "walk a =18446744073709551616 * f" ∷ codes "walk a * * f b" ∷ [])
@@ -81,7 +81,7 @@ map_commands : map command_of (codes "append a" ∷ codes "split b 5" ∷ codes 
 unfolding command_of command_of_words on_one_of on_map_of plain_of keyed_of valued_of entry_of extend_of number_at
 map_commands = refl
 
--- A word too many or too few, no pairs, a key without its value, another map, two spaces, a space behind, and a number that is too great.
+-- A word too many or too few, no pairs, a key without its value, another map, two spaces, a space after, and a number that is too great.
 bad_map_commands : map command_of (codes "append a b" ∷ codes "append" ∷ codes "split a" ∷ codes "split a 5 6" ∷ codes "copy" ∷ codes "copy a 1"
     ∷ codes "extend a" ∷ codes "extend a 3" ∷ codes "extend a 3 1 5" ∷ codes "extend c 3 1" ∷ codes "extend a  3 1" ∷ codes "extend a 3 1 "
     ∷ codes "extend a 3 18446744073709551616" ∷ [])
@@ -90,7 +90,7 @@ unfolding command_of command_of_words on_one_of on_map_of on_set_of plain_on_set
     keyed_of valued_of entry_of extend_of number_at
 bad_map_commands = refl
 
--- A pair for each map. A word too few or too many, a map's name, a word that is no number, two spaces, a space behind, and a number that
+-- A pair for each map. A word too few or too many, a map's name, a word that is no number, two spaces, a space after, and a number that
 -- is too great.
 both_commands : map command_of (codes "both 1 2 5 9" ∷ codes "both 0 00 18446744073709551615 1" ∷ codes "both" ∷ codes "both 1 2 5" ∷ codes "both 1 2 5 9 0"
     ∷ codes "both a 1 2 5 9" ∷ codes "both 1 2 x 9" ∷ codes "both 1 2  5 9" ∷ codes "both 1 2 5 9 " ∷ codes "both 1 2 18446744073709551616 9" ∷ [])

@@ -11,9 +11,9 @@ use Rattle.fc_lines.specs.Grammar.{◌>>=◌, number_of, number_at, pair_at, all
 abbrev pub ReadsPairs : List (List ℕ) → List (ℕ × ℕ) → List (List ℕ) → Type 0
 ReadsPairs all read rest = all_pairs all ≡ option_map (λ ys. read ++ ys) (all_pairs rest)
 
--- a number and the words behind it, and the pair that it begins
-abbrev behind : List (List ℕ) → Option ℕ → Option (ℕ × List (List ℕ))
-behind words o = o >>= λ n. Some (n, words)
+-- a number and the words after it, and the pair that it begins
+abbrev after : List (List ℕ) → Option ℕ → Option (ℕ × List (List ℕ))
+after words o = o >>= λ n. Some (n, words)
 
 abbrev paired : Option (ℕ × List (List ℕ)) → Option ((ℕ × ℕ) × List (List ℕ))
 paired o = o >>= λ k. number_at k.1 >>= λ v. Some ((k.0, v.0), v.1)
@@ -25,26 +25,26 @@ before_rest o = o >>= λ p. option_map (λ ys. p.0 ∷ ys) (all_pairs p.1)
 first_pair : (words : List (List ℕ)) → 0 < length words → all_pairs words ≡ before_rest (pair_at words)
 unfolding pair_at number_at
 first_pair [] h = absurd (omega arith)
-first_pair (k ∷ []) h = elim (number_of k) as (λ a. None ≡ before_rest (paired (behind [] a))) [ None ↦ refl | Some n ↦ refl ]
+first_pair (k ∷ []) h = elim (number_of k) as (λ a. None ≡ before_rest (paired (after [] a))) [ None ↦ refl | Some n ↦ refl ]
 first_pair (k ∷ v ∷ words) h = elim (number_of k) as (λ a. (a >>= λ x. number_of v >>= λ y. option_map (λ pairs. (x, y) ∷ pairs) (all_pairs words))
-    ≡ before_rest (paired (behind (v ∷ words) a))) [
+    ≡ before_rest (paired (after (v ∷ words) a))) [
       | None ↦ refl
       | Some x ↦ elim (number_of v) as (λ b. (b >>= λ y. option_map (λ pairs. (x, y) ∷ pairs) (all_pairs words))
-          ≡ before_rest (behind words b >>= λ value. Some ((x, value.0), value.1))) [ None ↦ refl | Some y ↦ refl ]
+          ≡ before_rest (after words b >>= λ value. Some ((x, value.0), value.1))) [ None ↦ refl | Some y ↦ refl ]
     ]
 
--- fewer words than n are left behind a pair
+-- fewer words than n are left after a pair
 abbrev IsShort : ℕ → Option ((ℕ × ℕ) × List (List ℕ)) → Type 0
 IsShort n o = IfSome o (λ p. length p.1 < n)
 
 short : (words : List (List ℕ)) → IsShort (length words) (pair_at words)
 unfolding pair_at number_at
 short [] = tt
-short (k ∷ []) = elim (number_of k) as (λ a. IsShort 1 (paired (behind [] a))) [ None ↦ tt | Some n ↦ tt ]
+short (k ∷ []) = elim (number_of k) as (λ a. IsShort 1 (paired (after [] a))) [ None ↦ tt | Some n ↦ tt ]
 short (k ∷ v ∷ words) = let two_more : length words < length (k ∷ v ∷ words) = omega arith in
-    elim (number_of k) as (λ a. IsShort (length (k ∷ v ∷ words)) (paired (behind (v ∷ words) a))) [
+    elim (number_of k) as (λ a. IsShort (length (k ∷ v ∷ words)) (paired (after (v ∷ words) a))) [
       | None ↦ tt
-      | Some x ↦ elim (number_of v) as (λ b. IsShort (length (k ∷ v ∷ words)) (behind words b >>= λ value. Some ((x, value.0), value.1))) [
+      | Some x ↦ elim (number_of v) as (λ b. IsShort (length (k ∷ v ∷ words)) (after words b >>= λ value. Some ((x, value.0), value.1))) [
         | None ↦ tt
         | Some y ↦ two_more
       ]

@@ -163,11 +163,11 @@ steps_of words = do
   ends ← some_read end_of letters.0
   whole_line (lo.0, hi.0, ends) letters.1
 
--- Behind the map of `walk` are steps.
+-- After the map of `walk` are steps.
 unfoldable pub walk_of : Side → List (List ℕ) → Option (Command ℕ ℕ)
 walk_of side words = option_map (λ steps. Walk side steps.0 steps.1 steps.2) (steps_of words)
 
--- Behind the map of `write` are two bounds and one or more writes.
+-- After the map of `write` are two bounds and one or more writes.
 unfoldable pub write_of : Side → List (List ℕ) → Option (Command ℕ ℕ)
 write_of side words = do
   lo ← bound_at words
@@ -175,33 +175,33 @@ write_of side words = do
   writes ← some_read one_write_of hi.1
   Some (Write side lo.0 hi.0 writes)
 
--- Behind the map of `extend` are one or more pairs.
+-- After the map of `extend` are one or more pairs.
 unfoldable pub extend_of : Side → List (List ℕ) → Option (Command ℕ ℕ)
 extend_of side words = option_map (Extend side) (some_pairs words)
 
--- Behind a map, a key and a value is the second value of `entry`.
+-- After a map, a key and a value is the second value of `entry`.
 unfoldable pub entry_of : List ℕ → Side → ℕ → ℕ → List (List ℕ) → Option (Command ℕ ℕ)
 entry_of word side k v words = do
   w ← number_at words
   if is_text word (codes "entry") then whole_line (Entry side k v w.0) w.1 else None
 
--- Behind a map and a key is a value, and where that ends no line another.
+-- After a map and a key is a value, and where that ends no line another.
 unfoldable pub valued_of : List ℕ → Side → ℕ → List (List ℕ) → Option (Command ℕ ℕ)
 valued_of word side k words = do
   v ← number_at words
   if is_end v.1 then on_pair word side k v.0 else entry_of word side k v.0 v.1
 
--- Behind a map is a key, and where that ends no line a value.
+-- After a map is a key, and where that ends no line a value.
 unfoldable pub keyed_of : List ℕ → Side → List (List ℕ) → Option (Command ℕ ℕ)
 keyed_of word side words = do
   k ← number_at words
   if is_end k.1 then on_key word side k.0 else valued_of word side k.0 k.1
 
--- What a word that names no list asks of a map, by how many numbers are behind the map.
+-- What a word that names no list asks of a map, by how many numbers are after the map.
 unfoldable pub plain_of : List ℕ → Side → List (List ℕ) → Option (Command ℕ ℕ)
 plain_of word side words = if is_end words then on_whole_map word side else keyed_of word side words
 
--- What a word and those behind the map ask of it.
+-- What a word and those after the map ask of it.
 unfoldable pub on_map_of : List ℕ → Side → List (List ℕ) → Option (Command ℕ ℕ)
 on_map_of word side words = if is_text word (codes "walk") then walk_of side words
     else if is_text word (codes "write") then write_of side words
@@ -217,11 +217,11 @@ both_of words = do
   w ← number_at l.1
   whole_line (InsertBoth k.0 v.0 l.0 w.0) w.1
 
--- Behind the set of `walk` are steps.
+-- After the set of `walk` are steps.
 unfoldable pub walk_items_of : Side → List (List ℕ) → Option (Command ℕ ℕ)
 walk_items_of side words = option_map (λ steps. SetWalk side steps.0 steps.1 steps.2) (steps_of words)
 
--- Behind the set of `extend` are one or more items.
+-- After the set of `extend` are one or more items.
 unfoldable pub extend_items_of : Side → List (List ℕ) → Option (Command ℕ ℕ)
 extend_items_of side words = option_map (SetExtend side) (some_read number_of words)
 
@@ -248,18 +248,18 @@ on_item word side k = if is_text word (codes "add") then Some (AddItem side k)
     else if is_text word (codes "split") then Some (SetSplitOff side k)
     else None
 
--- Behind a set is an item.
+-- After a set is an item.
 unfoldable pub with_item_of : List ℕ → Side → List (List ℕ) → Option (Command ℕ ℕ)
 with_item_of word side words = do
   k ← number_at words
   command ← on_item word side k.0
   whole_line command k.1
 
--- What a word that names no list asks of a set, by whether an item is behind the set.
+-- What a word that names no list asks of a set, by whether an item is after the set.
 unfoldable pub plain_on_set_of : List ℕ → Side → List (List ℕ) → Option (Command ℕ ℕ)
 plain_on_set_of word side words = if is_end words then on_whole_set word side else with_item_of word side words
 
--- What a word and those behind the set ask of it.
+-- What a word and those after the set ask of it.
 unfoldable pub on_set_of : List ℕ → Side → List (List ℕ) → Option (Command ℕ ℕ)
 on_set_of word side words = if is_text word (codes "walk") then walk_items_of side words
     else if is_text word (codes "extend") then extend_items_of side words
@@ -273,7 +273,7 @@ keep_of words = do
   c ← set_at first.1
   whole_line (Keep op c.0) c.1
 
--- The words after such a word are a map or a set, and what the word wants behind it.
+-- The words after such a word are a map or a set, and what the word wants after it.
 unfoldable pub on_one_of : List ℕ → List (List ℕ) → Option (Command ℕ ℕ)
 on_one_of word words = do
   name ← word_at words

@@ -71,6 +71,6 @@ text_of reply = words_of_reply reply ++ 10 ∷ []
 unfoldable pub fault_text : ℕ → List ℕ
 fault_text n = codes "line " ++ decimal n ++ codes ": not a command\n"
 
--- What is left of a text that was not wholly appended: what was there, and a beginning of it behind that.
+-- What is left of a text that was not wholly appended: what was there, and a beginning of it after that.
 abbrev pub IsBegun : (old text new : List ℕ) → Type 0
 IsBegun old text new = (length old ≤ length new) × (new ≡ take (length new) (old ++ text))

@@ -79,7 +79,7 @@ fn both_in(words: Option<&[u8]>) -> Option<Command<u64, u64>>
     )
 }
 
-// The words after such a word are a map or a set, and what the word wants behind it.
+// The words after such a word are a map or a set, and what the word wants after it.
 #[tactic(auto, unfolding(crate::specs::Grammar::on_one_of))]
 fn on_one_in(
     alloc: Global,
@@ -101,7 +101,7 @@ fn on_one_in(
     }
 }
 
-// What a word and those behind the map ask of it.
+// What a word and those after the map ask of it.
 #[tactic(auto, unfolding(crate::specs::Grammar::on_map_of))]
 fn on_map_in(
     alloc: Global,
@@ -120,7 +120,7 @@ fn on_map_in(
     }
 }
 
-// How many numbers are behind the map tells in which table the word stands.
+// How many numbers are after the map tells in which table the word stands.
 #[tactic(auto, unfolding(crate::specs::Grammar::plain_of, crate::specs::Grammar::keyed_of, crate::specs::Grammar::valued_of))]
 fn plain_in(word: &[u8], side: Side, words: Option<&[u8]>) -> Option<Command<u64, u64>>
     ensures { result ≡ plain_of word.entry.now side (words_left words.entry) }
@@ -139,7 +139,7 @@ fn plain_in(word: &[u8], side: Side, words: Option<&[u8]>) -> Option<Command<u64
     entry_in(word, side, key, value, words)
 }
 
-// Behind the first value is the second one of an entry.
+// After the first value is the second one of an entry.
 #[tactic(auto, unfolding(crate::specs::Grammar::entry_of))]
 fn entry_in(
     word: &[u8],

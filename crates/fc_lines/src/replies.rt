@@ -145,7 +145,7 @@ fn write_step(text: &mut Vec<u8>, step: Option<(u64, u64)>) -> Result<(), AllocE
     }
 }
 
-// Appends words, a number and the words behind it.
+// Appends words, a number and the words after it.
 fn write_between(text: &mut Vec<u8>, before: &[u8], n: u64, after: &[u8]) -> Result<(), AllocError>
     ensures written { OnOk result (text.new.items ≡ text.old.items ++ (before.now ++ (decimal n ++ after.now))) }
     ensures begun { OnErr result (IsBegun text.old.items (before.now ++ (decimal n ++ after.now)) text.new.items) }
@@ -157,7 +157,7 @@ fn write_between(text: &mut Vec<u8>, before: &[u8], n: u64, after: &[u8]) -> Res
     text.extend_from_slice(after)
 }
 
-// Appends words and a number behind them.
+// Appends words and a number after them.
 fn write_number(text: &mut Vec<u8>, words: &[u8], n: u64) -> Result<(), AllocError>
     ensures written { OnOk result (text.new.items ≡ text.old.items ++ words.now ++ decimal n) }
     ensures begun { OnErr result (IsBegun text.old.items (words.now ++ decimal n) text.new.items) }

@@ -37,7 +37,7 @@ pub(crate) fn keep_in(words: Option<&[u8]>) -> Option<Command<u64, u64>>
     at_line_end(Command::Keep(op, side), words)
 }
 
-// What a word and those behind the set ask of it.
+// What a word and those after the set ask of it.
 #[tactic(auto, unfolding(crate::specs::Grammar::on_set_of))]
 pub(crate) fn on_set_in(
     alloc: Global,
@@ -55,7 +55,7 @@ pub(crate) fn on_set_in(
     }
 }
 
-// Behind the set is an item where the line goes on.
+// After the set is an item where the line goes on.
 #[tactic(auto, unfolding(crate::specs::Grammar::plain_on_set_of))]
 fn plain_in(word: &[u8], side: Side, words: Option<&[u8]>) -> Option<Command<u64, u64>>
     ensures { result ≡ plain_on_set_of word.entry.now side (words_left words.entry) }
@@ -67,7 +67,7 @@ fn plain_in(word: &[u8], side: Side, words: Option<&[u8]>) -> Option<Command<u64
     }
 }
 
-// Behind the set is an item.
+// After the set is an item.
 #[tactic(auto, unfolding(crate::specs::Grammar::with_item_of))]
 fn item_in(word: &[u8], side: Side, words: Option<&[u8]>) -> Option<Command<u64, u64>>
     ensures { result ≡ with_item_of word.entry.now side (words_left words.entry) }

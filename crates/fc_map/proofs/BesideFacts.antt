@@ -36,32 +36,32 @@ module _ {K Q V : Type 0} (cmp : K → K → Ordering) (order : K → Q → Orde
 
 -- Of two parts of a list, one is all or none of it.
 module _ {X : Type 0} where
-  pub none_behind : (ahead behind s : List X) → ahead ++ behind ≡ s → length ahead ≡ length s → behind ≡ []
-  none_behind ahead behind s parts e =
-      let all = sym (ap length parts) ∙ length-append ahead behind in
-      nil_from_length behind (omega (arith, all, e))
+  pub none_after : (before after s : List X) → before ++ after ≡ s → length before ≡ length s → after ≡ []
+  none_after before after s parts e =
+      let all = sym (ap length parts) ∙ length-append before after in
+      nil_from_length after (omega (arith, all, e))
 
 -- A pair at the seam of two parts of a map's list.
-module _ {K V Z : Type 0} (m : Map K V Z) (path : List ℕ) (ahead behind : List (K × V)) where
+module _ {K V Z : Type 0} (m : Map K V Z) (path : List ℕ) (before after : List (K × V)) where
   abbrev around : List (K × V)
   around = before_pair_in m path ++ after_pair_in m path
 
   abbrev IsFirst : Type 0
-  IsFirst = (p : K × V) × (rest : List (K × V)) × (pair_in m path ≡ Some p) × (behind ≡ p ∷ rest) × (around ≡ ahead ++ rest)
-      × ((v : V) → entries (written_in m path v) ≡ ahead ++ (p.0, v) ∷ rest)
+  IsFirst = (p : K × V) × (rest : List (K × V)) × (pair_in m path ≡ Some p) × (after ≡ p ∷ rest) × (around ≡ before ++ rest)
+      × ((v : V) → entries (written_in m path v) ≡ before ++ (p.0, v) ∷ rest)
 
   abbrev IsLast : Type 0
-  IsLast = (p : K × V) × (lead : List (K × V)) × (pair_in m path ≡ Some p) × (ahead ≡ lead ++ p ∷ []) × (around ≡ lead ++ behind)
-      × ((v : V) → entries (written_in m path v) ≡ lead ++ (p.0, v) ∷ behind)
+  IsLast = (p : K × V) × (lead : List (K × V)) × (pair_in m path ≡ Some p) × (before ≡ lead ++ p ∷ []) × (around ≡ lead ++ after)
+      × ((v : V) → entries (written_in m path v) ≡ lead ++ (p.0, v) ∷ after)
 
 module _ {K V Z : Type 0} where
-  pub first_behind : (m : Map K V Z) (path : List ℕ) (ahead behind : List (K × V)) → IsSoundMap m → ahead ++ behind ≡ entries m
-      → IsPlaceIn m path × (length (before_pair_in m path) ≡ length ahead) → IsFirst m path ahead behind
-  first_behind None path ahead behind sound parts at = absurd at.0
-  first_behind (Some root) path ahead behind sound parts at =
+  pub first_after : (m : Map K V Z) (path : List ℕ) (before after : List (K × V)) → IsSoundMap m → before ++ after ≡ entries m
+      → IsPlaceIn m path × (length (before_pair_in m path) ≡ length before) → IsFirst m path before after
+  first_after None path before after sound parts at = absurd at.0
+  first_after (Some root) path before after sound parts at =
       let c = place_pairs path sound.0 root sound.2.1 at.0 in
       let rest = after_pair path root in
-      let s = same_cut (before_pair path root) (c.pair ∷ rest) ahead behind (sym (parts ∙ c.parts)) at.1 in (
+      let s = same_cut (before_pair path root) (c.pair ∷ rest) before after (sym (parts ∙ c.parts)) at.1 in (
         c.pair,
         rest,
         c.is,
@@ -70,15 +70,15 @@ module _ {K V Z : Type 0} where
         λ v. written_pairs path sound.0 root c.pair v sound.2.1 at.0 c.is ∙ ap (λ z. z ++ (c.pair.0, v) ∷ rest) s.0,
       )
 
-  pub last_ahead : (m : Map K V Z) (path : List ℕ) (ahead behind : List (K × V)) → IsSoundMap m → ahead ++ behind ≡ entries m
-      → IsPlaceIn m path × (length (before_pair_in m path) + 1 ≡ length ahead) → IsLast m path ahead behind
-  last_ahead None path ahead behind sound parts at = absurd at.0
-  last_ahead (Some root) path ahead behind sound parts at =
+  pub last_before : (m : Map K V Z) (path : List ℕ) (before after : List (K × V)) → IsSoundMap m → before ++ after ≡ entries m
+      → IsPlaceIn m path × (length (before_pair_in m path) + 1 ≡ length before) → IsLast m path before after
+  last_before None path before after sound parts at = absurd at.0
+  last_before (Some root) path before after sound parts at =
       let c = place_pairs path sound.0 root sound.2.1 at.0 in
       let lead = before_pair path root in
-      let whole : (lead ++ c.pair ∷ []) ++ after_pair path root ≡ ahead ++ behind = append_assoc lead (c.pair ∷ []) (after_pair path root)
+      let whole : (lead ++ c.pair ∷ []) ++ after_pair path root ≡ before ++ after = append_assoc lead (c.pair ∷ []) (after_pair path root)
       ∙ sym (parts ∙ c.parts) in
-      let s = same_cut (lead ++ c.pair ∷ []) (after_pair path root) ahead behind whole (length-append lead (c.pair ∷ []) ∙ at.1) in (
+      let s = same_cut (lead ++ c.pair ∷ []) (after_pair path root) before after whole (length-append lead (c.pair ∷ []) ∙ at.1) in (
         c.pair,
         lead,
         c.is,

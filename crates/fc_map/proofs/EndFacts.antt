@@ -23,7 +23,7 @@ use Rattle.fc_map.specs.Place.{IsOpenAt, TellsRoom}
 use Rattle.fc_tree_cursor.specs.Gap.{IsGapIn, AreEndsIn, zeros}
 use Rattle.fc_tree_search.specs.Written.{set_value}
 use Rattle.fc_map.specs.Writing.{Stretch, wrote_first, wrote_last}
-use Rattle.fc_map.proofs.ShapeFacts.{gap_stays, entries_written}
+use Rattle.fc_map.proofs.WrittenFacts.{gap_stays, entries_written}
 use Rattle.fc_tree_node.specs.TreePlace.{IsPlaceIn, pair_in, before_gap_in, before_pair_in}
 use Rattle.fc_map.specs.Lends.{branch, written_in}
 use Rattle.fc_tree_cursor.specs.Leaf.{advanced}
@@ -37,14 +37,14 @@ take_lead [] ys (suc k) h = absurd (omega arith)
 take_lead (x ∷ p) ys (suc k) h = ap (λ q. x ∷ q) (take_lead p ys k (omega arith))
 
 -- the steps of a path to a pair, by the gap after the pair
-branch_past : (p next rest : List ℕ) (last place : ℕ) → last < length p → next ≡ take last p ++ rest → branch next last place ≡ take last p ++ place ∷ []
-branch_past p next rest last place h is = ap (λ q. take last q ++ place ∷ []) is ∙ ap (λ q. q ++ place ∷ []) (take_lead p rest last (omega arith))
+branch_after : (p next rest : List ℕ) (last place : ℕ) → last < length p → next ≡ take last p ++ rest → branch next last place ≡ take last p ++ place ∷ []
+branch_after p next rest last place h is = ap (λ q. take last q ++ place ∷ []) is ∙ ap (λ q. q ++ place ∷ []) (take_lead p rest last (omega arith))
 
 -- what stands after no pair is nothing
-none_behind : {X : Type 0} (ps : List X) (cs : List (List X)) → after_list ps cs ≡ [] → ps ≡ []
-none_behind [] cs e = refl
-none_behind (p ∷ ps) [] e = absurd cc
-none_behind (p ∷ ps) (c ∷ cs) e = absurd cc
+none_after : {X : Type 0} (ps : List X) (cs : List (List X)) → after_list ps cs ≡ [] → ps ≡ []
+none_after [] cs e = refl
+none_after (p ∷ ps) [] e = absurd cc
+none_after (p ∷ ps) (c ∷ cs) e = absurd cc
 
 both_none : {X : Type 0} (a b : List X) → a ++ b ≡ [] → (a ≡ []) × (b ≡ [])
 both_none [] b e = (refl, e)
@@ -57,12 +57,12 @@ pub record IsInLeaf (path : List ℕ) (gone : ℕ) : Type 0 where
 
 module _ {K V : Type 0} where
   module _ {Z : Type 0} where
-    -- gaps with as many pairs ahead are the same
+    -- gaps with as many pairs before them are the same
     pub same_gap : (m : Map K V Z) (a b : List ℕ) → IsSoundMap m → IsGapIn m a → IsGapIn m b → length (before_gap_in m a) ≡ length (before_gap_in m b) → a ≡ b
     same_gap None a b sound s t e = s ∙ sym t
     same_gap (Some root) a b sound s t e = let h = sound.0 in let l = sound.2.1 in same_path h root a b l s.0 t.0 (s.1 h l) (t.1 h l) e
 
-    -- a gap has at most all pairs ahead
+    -- a gap has at most all pairs before it
     pub gap_within : (m : Map K V Z) (a : List ℕ) → IsSoundMap m → IsGapIn m a → length (before_gap_in m a) ≤ length (entries m)
     gap_within None a sound s = omega arith
     gap_within (Some root) a sound s =
@@ -88,11 +88,11 @@ module _ {K V : Type 0} where
           back = subst (AllByRecursion (λ e. cmp e.0 k ≡ Greater)) (sym none) tt;
         }
 
-    -- a path that leads behind all pairs ends behind those of its leaf
+    -- a path that leads after all pairs ends after those of its leaf
     last_step : (k i : ℕ) (path : List ℕ) (n : Node K V Z) → k ≡ length path → IsPath (i ∷ path) n → after_gap (i ∷ path) n ≡ []
         → slice_index (i ∷ path) k ≡ length (own_pairs (leaf_at (i ∷ path) n))
     last_step zero i [] n e p none =
-        let rest = ap length (none_behind (drop i (own_pairs n)) _ none) in
+        let rest = ap length (none_after (drop i (own_pairs n)) _ none) in
         let long = length-drop i (own_pairs n) in
         omega (arith, rest, long, p.0)
     last_step zero i (j ∷ path) n e p none = absurd (omega arith)
@@ -198,7 +198,7 @@ module _ {K V : Type 0} where
           later = subst (λ o. length (before_gap_in o gap) < length (entries o)) is later;
         }
 
-    -- past a pair at the root of the tree
+    -- over a pair at the root of the tree
     pub record IsPassed (gap next : List ℕ) (n : Node K V Z) (last place run : ℕ) : Type 0 where
       pub way_is : last < length gap
       pub own : place ≡ get_or gap last 0
@@ -225,7 +225,7 @@ module _ {K V : Type 0} where
         let f = x.next_is ∙ ap (λ i. take last gap ++ (i + 1) ∷ zeros (length gap - suc last)) own
         ∙ ap (λ k. take last gap ++ (get_or gap last 0 + 1) ∷ zeros k) (omega (arith, t, w)) in
         let z = stepped_after (Some n) n gap next last (suc last) refl sound g y (omega arith) f in
-        let b = branch_past gap next _ last place w x.next_is in
+        let b = branch_after gap next _ last place w x.next_is in
         let slot = z.slot in
         let long = slot.1 h sound.2.1 in
         let deep = g.1 h sound.2.1 in
@@ -260,16 +260,15 @@ module _ {K V : Type 0} where
 
   module _ {Z : Type 0} where
     -- the ends of a walk stay where a value is written
-    pub ends_stay : (m : Map K V Z) (path front back : List ℕ) (w : V) → IsSoundMap m → IsPlaceIn m path → AreEndsIn m front back
-        → AreEndsIn (written_in m path w) front back
-    ends_stay m path front back w sound place ends =
-        let f = gap_stays m path front w sound place ends.0 in
-        let b = gap_stays m path back w sound place ends.1 in
-        (f.slot, b.slot, omega (arith, f.count, b.count, ends.2))
+    pub ends_stay : (m : Map K V Z) (path front back : List ℕ) (w : V) → AreEndsIn m front back → AreEndsIn (written_in m path w) front back
+    ends_stay m path front back w ends =
+        let f = gap_stays m path front w ends.0 in
+        let b = gap_stays m path back w ends.1 in
+        (f.0, b.0, omega (arith, ends.2))
 
-    pub counted_stays : (m : Map K V Z) (path gap : List ℕ) (count : ℕ) (w : V) → IsSoundMap m → IsPlaceIn m path → IsGapIn m gap
-        → count ≡ length (before_gap_in m gap) → count ≡ length (before_gap_in (written_in m path w) gap)
-    counted_stays m path gap count w sound place g e = e ∙ sym ((gap_stays m path gap w sound place g).count)
+    pub counted_stays : (m : Map K V Z) (path gap : List ℕ) (count : ℕ) (w : V) → IsGapIn m gap → count ≡ length (before_gap_in m gap)
+        → count ≡ length (before_gap_in (written_in m path w) gap)
+    counted_stays m path gap count w g e = e ∙ sym (gap_stays m path gap w g).1
 
     -- a walk once a value is written
     abbrev once : Map K V Z → List ℕ → List ℕ → List ℕ → V → Stretch K V
@@ -282,8 +281,8 @@ module _ {K V : Type 0} where
     stretch_written m path front back w s at from to sound place ends list a f b =
         state_is _ _ _ _ _ _
         (entries_written m path w sound place ∙ ap (λ z. set_value z (length (before_pair_in m path)) w) list ∙ ap (λ i. set_value s i w) a)
-        ((gap_stays m path front w sound place ends.0).count ∙ f)
-        ((gap_stays m path back w sound place ends.1).count ∙ b)
+        ((gap_stays m path front w ends.0).1 ∙ f)
+        ((gap_stays m path back w ends.1).1 ∙ b)
 
     -- the pair that a place has in a list
     pub place_item : (m : Map K V Z) (path : List ℕ) (s : List (K × V)) (i : ℕ) → IsSoundMap m → IsPlaceIn m path → entries m ≡ s
@@ -301,7 +300,7 @@ module _ {K V : Type 0} where
     place_on m path same way place i is there before =
         (subst (λ p. IsPlaceIn m (branch p way place)) (sym is) there, ap (λ p. length (before_pair_in m (branch p way place))) is ∙ before)
 
-    -- What is written to the first value of a walk, past which its front has gone, and which value it is.
+    -- What is written to the first value of a walk, over which its front has gone, and which value it is.
     pub lent_first : (m : Map K V Z) (path front back : List ℕ) (v : V) (t : Stretch K V) → IsSoundMap m → AreEndsIn m front back → entries m ≡ t.list
         → IsPlaceIn m path × (length (before_pair_in m path) ≡ t.front) → length (before_gap_in m front) ≡ t.front + 1
         → length (before_gap_in m back) ≡ t.back

@@ -73,7 +73,7 @@ module _ {K V Z : Type 0} where
   rewritten (Some root) path v sound place =
       let c = place_pairs path sound.0 root sound.2.1 place in
       let a = written_at path root c.pair v place c.is in
-      let l = (written_levels path sound.0 root v sound.2.1 place).0 in
+      let l = written_levels path sound.0 root v sound.2.1 in
       record {
         key_is = ap (option_map (λ p. p.0)) a.pair ∙ sym (ap (option_map (λ p. p.0)) c.is);
         value_is = ap (option_map (λ p. p.1)) a.pair;

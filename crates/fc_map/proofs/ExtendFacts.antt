@@ -1,30 +1,24 @@
 -- A list extended by items, one after another.
-use Rattle.std.proofs.Common.{◌≡◌, List, [], ◌∷◌, ◌++◌, Some, None, cond, length, inl, inr, refl, sym, ap, subst, ◌∙◌, arith}
-use Rattle.std.proofs.Common.{append_assoc, append-nil, length-append, ℕ, ◌-◌, ◌^◌, ◌≤◌, ◌⊎◌, Bool, false, IsTrue, Option, Result, Ok, Err, ◌↔◌}
-use Rattle.std.specs.Bool.{if◌then◌else◌}
+use Rattle.std.proofs.Common.{◌≡◌, List, [], ◌∷◌, ◌++◌, Some, None, length, inl, inr, refl, sym, ap, subst, ◌∙◌, arith}
+use Rattle.std.proofs.Common.{append_assoc, append-nil, length-append, Bool, false, IsTrue, Option, Result, Ok, Err, ◌↔◌}
 use Rattle.std.specs.Result.{IfOk, IfErr}
 use Rattle.std.specs.Prelude.{IfSome}
-use Rattle.std.proofs.lemmas.Bool.{iff_false, ne_eqb}
-use Rattle.std.specs.Prelude.{unwrap_or}
-use Rattle.std.specs.Option.{option_map}
+use Rattle.std.proofs.lemmas.Bool.{iff_false}
 use Rattle.std.specs.Cmp.{IsTotalOrder}
 use Rattle.std.specs.List.{AllByRecursion}
-use Rattle.std.specs.Ordering.{is_lt, is_eq, is_gt}
+use Rattle.std.specs.Ordering.{is_lt}
 use Rattle.std.specs.declared.cmp.Ordering.TheVariants.{Less}
 use Rattle.fc_base.specs.Ascending.{IsAscending}
-use Rattle.fc_base.proofs.AscendingFacts.{all_map, kept, left_out}
-use Rattle.fc_base.proofs.Laws.{ascending_put}
 use Rattle.fc_tree_node.proofs.Lists.{all_back}
 use Rattle.std.specs.declared.cmp.Ordering.{Ordering}
 use Rattle.fc_base.specs.declared.try_reserve_error.TryReserveError.{TryReserveError}
-use Rattle.fc_base.specs.declared.try_reserve_error.TryReserveError.TheVariants.{CapacityOverflow, AllocError}
-use Rattle.fc_base.specs.Sizes.{capacity}
 use Rattle.fc_base.specs.Extended.{extended, IsExtendedUpTo}
 use Rattle.fc_base.specs.Growth.{MayGrowRefuse}
 use Rattle.fc_base.specs.OneKey.{put}
-use Rattle.fc_base.specs.Parts.{below, above, at}
-use Rattle.fc_tree_build.specs.Built.{Grown, IsBehindLast}
+use Rattle.fc_base.specs.Parts.{at}
+use Rattle.fc_tree_build.specs.Built.{Grown, IsAfterLast}
 use Rattle.fc_tree_build.proofs.Ends.{less_if, less_then}
+use Rattle.fc_tree_build.proofs.OrderedFacts.{after, put_after, ascending_after}
 use Rattle.fc_map.specs.Entries.{Map, entries}
 use Rattle.fc_map.specs.BulkInsert.{IsBulkInsert}
 
@@ -50,44 +44,13 @@ module _ {K V : Type 0} (cmp : K → K → Ordering) where
     refl,
   )
 
-  -- ---- a key after all others
-
-  pub none_at : (s : List (K × V)) (k : K) → AllByRecursion (λ e. cmp e.0 k ≡ Less) s → at cmp s k ≡ None
-  none_at [] k a = refl
-  none_at (e ∷ s) k a = ap (λ o. cond (is_eq o) (Some e) (at cmp s k)) a.0 ∙ none_at s k a.1
-
-  -- It is new, and its pair is put at the end.
-  pub put_behind : (s : List (K × V)) (k : K) (v : V) → AllByRecursion (λ e. cmp e.0 k ≡ Less) s → (put cmp s k v ≡ s ++ (k, v) ∷ []) × (at cmp s k ≡ None)
-  put_behind s k v a =
-      let b : below cmp s k ≡ s = kept (λ e. is_lt (cmp e.0 k)) s (all_map _ _ (λ e l. ap is_lt l) s a) in
-      let c : above cmp s k ≡ [] = left_out (λ e. is_gt (cmp e.0 k)) s (all_map _ _ (λ e l. ap is_gt l) s a) in
-      let n = none_at s k a in (
-        ap (λ l. l ++ (unwrap_or (option_map (λ e. e.0) (at cmp s k)) k, v) ∷ above cmp s k) b
-            ∙ ap (λ l. s ++ (unwrap_or (option_map (λ e. e.0) (at cmp s k)) k, v) ∷ l) c
-            ∙ ap (λ o. s ++ (unwrap_or (option_map (λ e. e.0) o) k, v) ∷ []) n,
-        n,
-      )
-
-  -- A key that is greater than the last one is greater than all.
-  pub behind : (s front : List (K × V)) (last : K × V) (k : K) → IsTotalOrder cmp → s ≡ front ++ last ∷ [] → IsAscending cmp s → cmp last.0 k ≡ Less
-      → AllByRecursion (λ e. cmp e.0 k ≡ Less) s
-  behind s front last k total e a less = subst (AllByRecursion (λ e. cmp e.0 k ≡ Less)) (sym e) (go front (subst (IsAscending cmp) e a))
-    where
-      go : (front : List (K × V)) → IsAscending cmp (front ++ last ∷ []) → AllByRecursion (λ e. cmp e.0 k ≡ Less) (front ++ last ∷ [])
-      go [] a = (less, tt)
-      go (x ∷ front) a = (total.trans x.0 last.0 k (all_back (λ y. cmp x.0 y.0 ≡ Less) front (last ∷ []) a.0).0 less, go front a.1)
-
-  -- Whether it is, as it compares with the last one.
+  -- Whether a key is greater than all, as it compares with the last one.
   pub is_after_all : (s front : List (K × V)) (last : K × V) (k : K) (b : Bool) → IsTotalOrder cmp → s ≡ front ++ last ∷ [] → IsAscending cmp s
       → b ≡ is_lt (cmp last.0 k) → IsTrue b ↔ AllByRecursion (λ e. cmp e.0 k ≡ Less) s
   is_after_all s front last k b total e a is = (
-    λ h. behind s front last k total e a (less_if _ _ is h),
+    λ h. after cmp s front last k total e a (less_if _ _ is h),
     λ all. less_then _ _ is (all_back (λ e. cmp e.0 k ≡ Less) front (last ∷ []) (subst (AllByRecursion (λ e. cmp e.0 k ≡ Less)) e all)).0,
   )
-
-  pub ascending_behind : (s new : List (K × V)) (k : K) (v : V) → IsTotalOrder cmp → new ≡ s ++ (k, v) ∷ [] → AllByRecursion (λ e. cmp e.0 k ≡ Less) s
-      → IsAscending cmp s → IsAscending cmp new
-  ascending_behind s new k v total e b a = subst (IsAscending cmp) ((put_behind s k v b).0 ∙ sym e) (ascending_put cmp s k v total a)
 
   -- ---- a tree that is open, and a map beside it
 
@@ -97,18 +60,18 @@ module _ {K V : Type 0} (cmp : K → K → Ordering) where
   none_beside t m front last (a, inr none) e = none
 
   -- A pair whose key is greater than the last one is put after all.
-  pub put_last : (t m new : List (K × V)) (k : K) (v : V) → IsTotalOrder cmp → IsBulkInsert cmp t m → IsBehindLast cmp t k → new ≡ t ++ (k, v) ∷ []
+  pub put_last : (t m new : List (K × V)) (k : K) (v : V) → IsTotalOrder cmp → IsBulkInsert cmp t m → IsAfterLast cmp t k → new ≡ t ++ (k, v) ∷ []
       → (new ++ m ≡ put cmp (t ++ m) k v) × IsBulkInsert cmp new m
   put_last t m new k v total x b e =
       let none = none_beside t m b.0 b.1 x b.2 in
-      let all = behind t b.0 b.1 k total b.2 x.0 b.3 in (
-        rw none (append-nil new ∙ e ∙ sym (put_behind t k v all).0 ∙ ap (λ z. put cmp z k v) (sym (append-nil t))),
-        (ascending_behind t new k v total e all x.0, inr none),
+      let all = after cmp t b.0 b.1 k total b.2 x.0 b.3 in (
+        rw none (append-nil new ∙ e ∙ sym (put_after cmp t k v all).0 ∙ ap (λ z. put cmp z k v) (sym (append-nil t))),
+        (ascending_after cmp t new k v total e all x.0, inr none),
       )
 
   -- What a tree that may have taken the pair tells of both.
   pub put_if_last : (r : Option (K × V)) (t new : Grown K V) (m : List (K × V)) (pair : K × V) → IsTotalOrder cmp → IsBulkInsert cmp t.pairs m
-      → (r ≡ None → IsBehindLast cmp t.pairs pair.0) → (r ≡ None → new.pairs ≡ t.pairs ++ pair ∷ []) → IfSome r (λ back. (back ≡ pair) × (new ≡ t))
+      → (r ≡ None → IsAfterLast cmp t.pairs pair.0) → (r ≡ None → new.pairs ≡ t.pairs ++ pair ∷ []) → IfSome r (λ back. (back ≡ pair) × (new ≡ t))
       → IsBulkInsert cmp new.pairs m × (r ≡ None → new.pairs ++ m ≡ put cmp (t.pairs ++ m) pair.0 pair.1)
   put_if_last None t new m pair total x b e h = let all = put_last t.pairs m new.pairs pair.0 pair.1 total x (b refl) (e refl) in (all.1, λ _. all.0)
   put_if_last (Some y) t new m pair total x b e h = (subst (λ g. IsBulkInsert cmp g.pairs m) (sym h.1) x, λ no. absurd cc)
@@ -186,14 +149,3 @@ module _ {K V : Type 0} where
       → IfErr r (λ b. (new ≡ m) × P b) → IfErr r (λ b. (t ++ entries new ≡ s) × P b)
   kept_beside P (Ok x) t m new s e h = h
   kept_beside P (Err b) t m new s e h = (ap (λ z. t ++ entries z) h.0 ∙ e, h.1)
-
--- A tree that may still be counted has no other error than that of memory.
-pub push_refusal : {X : Type 0} (s : List X) (n : ℕ) (e : TryReserveError) → n ≡ length s → (n ≡ 2 ^ 64 - 1 → ⊥) → e ≡ AllocError
-    → (s ≡ []) ⊎ (capacity ≤ length s) → MayGrowRefuse (length s) e
-push_refusal s n e l few is full =
-    let other = ne_eqb (length s) (2 ^ 64 - 1) (λ x. few (l ∙ x)) in
-    (is ∙ sym (ap (λ b. if b then CapacityOverflow else AllocError) other), blank_or_full full)
-  where
-    blank_or_full : (s ≡ []) ⊎ (capacity ≤ length s) → (length s ≡ 0) ⊎ (capacity ≤ length s)
-    blank_or_full (inl none) = inl (ap length none)
-    blank_or_full (inr many) = inr many

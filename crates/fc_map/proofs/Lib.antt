@@ -4,7 +4,6 @@ pub mod PlaceFacts
 pub mod RemoveFacts
 pub mod WrittenFacts
 pub mod EntryFacts
-pub mod ShapeFacts
 pub mod EndFacts
 pub mod WritingFacts
 pub mod VisitLaws
@@ -12,14 +11,10 @@ pub mod ExtendFacts
 pub mod LoadFacts
 pub mod PopFacts
 pub mod SplitFacts
-pub mod CloneFacts
-pub mod CopyFacts
 pub mod ExchangeFacts
 pub mod ReadyFacts
 pub mod EndPairFacts
 pub mod BesideFacts
-pub mod WalkSizes
-pub mod OwnedFacts
 pub mod BulkInsertSizes
 pub mod RangeParts
 pub mod RangedFacts

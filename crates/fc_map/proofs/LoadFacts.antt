@@ -7,7 +7,7 @@ use Rattle.fc_base.specs.Extended.{extended, IsExtendedUpTo}
 use Rattle.fc_base.specs.Growth.{MayGrowRefuse}
 use Rattle.fc_base.specs.OneKey.{put}
 use Rattle.fc_base.specs.Parts.{at}
-use Rattle.fc_tree_merge.proofs.StableLaws.{extended_more}
+use Rattle.fc_tree_append.proofs.StableLaws.{extended_more}
 use Rattle.fc_map.specs.BulkLoad.{Loading, IsLoaded}
 use Rattle.fc_map.proofs.ExtendFacts.{up_to}
 

@@ -1,17 +1,18 @@
 -- What a search of a map found.
-use Rattle.std.proofs.Common.{◌≡◌, ℕ, List, length, Some, None, Result, Ok, Err, IsSome, refl, sym, ◌∙◌}
+use Rattle.std.proofs.Common.{◌≡◌, ℕ, List, length, Some, None, Result, Ok, Err, IsSome, refl, ◌∙◌}
 use Rattle.std.specs.Prelude.{OnOk, OnErr}
 use Rattle.std.specs.declared.cmp.Ordering.{Ordering}
 use Rattle.fc_base.specs.OneKey.{put_by, cut}
 use Rattle.fc_base.specs.Parts.{at}
+use Rattle.fc_tree_node.proofs.Bare.{same_length, same_root}
 use Rattle.fc_tree_node.proofs.Gaps.{gap_pairs, place_pairs}
+use Rattle.fc_tree_search.specs.Written.{written}
 use Rattle.fc_tree_search.proofs.SearchFacts.{found_at, gap_at}
-use Rattle.fc_tree_search.proofs.WrittenPairs.{written_levels, written_put}
+use Rattle.fc_tree_search.proofs.WrittenPairs.{bare_written, written_put}
 use Rattle.fc_map.specs.Entries.{Map, entries, IsSoundMap}
 use Rattle.fc_tree_node.specs.TreePlace.{pair_in}
 use Rattle.fc_map.specs.Lends.{written_in}
 use Rattle.fc_map.specs.Place.{IsHeldAt, IsOpenAt}
-use Rattle.fc_map.proofs.WrittenFacts.{written_length}
 
 module _ {K Q V Z : Type 0} (cmp : K → Q → Ordering) (k : Q) where
   -- The pair that the path leads to is the one with an equal key.
@@ -57,10 +58,9 @@ module _ {K Q V Z : Type 0} (cmp : K → Q → Ordering) (k : Q) where
   pub replaced : (m : Map K V Z) (path : List ℕ) (w : V) → IsSoundMap m → IsHeldAt cmp k m path → IsReplaced m (written_in m path w) w
   replaced None path w sound held = absurd held
   replaced (Some root) path w sound held =
-      let l = written_levels path sound.0 root w sound.2.1 held.place in
-      let same = l.1 in
+      let same = bare_written path root w in
       record {
         put_is = λ j. written_put cmp k path sound.0 root j w sound.2.1 held;
-        length_is = sym (written_length root path w held.place sound);
-        sound = (sound.0, sound.1, (rw same sound.2.0, l.0));
+        length_is = same_length root (written root path w) same;
+        sound = same_root root (written root path w) same sound;
       }

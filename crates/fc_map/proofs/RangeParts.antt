@@ -11,7 +11,7 @@ use Rattle.fc_base.specs.Ascending.{IsAscending}
 use Rattle.fc_base.specs.Query.{IsQueryOrder}
 use Rattle.fc_base.specs.Ranges.{starts, stops, within}
 use Rattle.fc_base.proofs.AscendingFacts.{all_map, left_out}
-use Rattle.fc_map.specs.Ranged.{in_front, behind, outside}
+use Rattle.fc_map.specs.Ranged.{before_range, after_range, outside}
 
 module _ {K V : Type 0} (cmp : K → K → Ordering) (p u : K × V → Bool) (up : (x y : K × V) → cmp x.0 y.0 ≡ Less → p x ≡ true → p y ≡ true)
     (down : (x y : K × V) → cmp x.0 y.0 ≡ Less → u x ≡ false → u y ≡ false) where
@@ -77,7 +77,7 @@ module _ {K Q : Type 0} {cmp : K → K → Ordering} {order : K → Q → Orderi
     where
       go : (r : Ordering) → order x q ≡ r → is_ge r ≡ true → is_ge (order y q) ≡ true
       go Less h e = absurd cc
-      go Equal h e = ap is_ge (fits.past q x y l h)
+      go Equal h e = ap is_ge (fits.after q x y l h)
       go Greater h e = ap is_ge (fits.upper q x y l h)
   starts_up (Excluded q) x y l e = go (order x q) refl e
     where
@@ -98,18 +98,18 @@ module _ {K Q : Type 0} {cmp : K → K → Ordering} {order : K → Q → Orderi
     where
       go : (r : Ordering) → order x q ≡ r → is_lt r ≡ false → is_lt (order y q) ≡ false
       go Less h e = absurd cc
-      go Equal h e = ap is_lt (fits.past q x y l h)
+      go Equal h e = ap is_lt (fits.after q x y l h)
       go Greater h e = ap is_lt (fits.upper q x y l h)
   stops_down Unbounded x y l e = absurd cc
 
   -- what is before a range, within it and after it
   pub range_parts : {V : Type 0} (lo hi : Bound Q) (s : List (K × V)) → IsAscending cmp s
-      → s ≡ in_front order lo s ++ (within order lo hi s ++ behind order lo hi s)
+      → s ≡ before_range order lo s ++ (within order lo hi s ++ after_range order lo hi s)
   range_parts lo hi s a =
       three_parts cmp (λ e. starts order lo e.0) (λ e. stops order hi e.0) (λ x y. starts_up lo x.0 y.0) (λ x y. stops_down hi x.0 y.0) s a
 
   -- those before it and after it are those outside
   pub range_outside : {V : Type 0} (lo hi : Bound Q) (s : List (K × V)) → IsAscending cmp s
-      → in_front order lo s ++ behind order lo hi s ≡ outside order lo hi s
+      → before_range order lo s ++ after_range order lo hi s ≡ outside order lo hi s
   range_outside lo hi s a =
       two_parts cmp (λ e. starts order lo e.0) (λ e. stops order hi e.0) (λ x y. starts_up lo x.0 y.0) (λ x y. stops_down hi x.0 y.0) s a

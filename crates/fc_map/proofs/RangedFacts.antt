@@ -15,7 +15,7 @@ use Rattle.fc_tree_cursor.specs.Gap.{AreEndsIn}
 use Rattle.fc_tree_cursor.specs.Span.{between}
 use Rattle.fc_map.proofs.RangeParts.{range_parts, range_outside}
 use Rattle.fc_map.specs.Entries.{Map, entries, IsSoundMap}
-use Rattle.fc_map.specs.Ranged.{in_front, behind, outside, replacing}
+use Rattle.fc_map.specs.Ranged.{before_range, after_range, outside, replacing}
 use Rattle.fc_map.specs.Writing.{starting}
 
 both : {X : Type 0} (p : X → Bool) (s : List X) → length (filter (λ x. not (p x)) s) + length (filter p s) ≡ length s
@@ -43,16 +43,16 @@ module _ {K Q V Z : Type 0} {cmp : K → K → Ordering} {order : K → Q → Or
 
   -- what they cut the map into
   pub record IsCutIn : Type 0 where
-    pub ahead : before_gap_in m front ≡ in_front order lo (entries m)
+    pub before : before_gap_in m front ≡ before_range order lo (entries m)
     pub amid : between m front back ≡ within order lo hi (entries m)
-    pub after : after_gap_in m back ≡ behind order lo hi (entries m)
+    pub after : after_gap_in m back ≡ after_range order lo hi (entries m)
 
   pub cut_in : AreOfRange → IsCutIn
   cut_in r =
       let s = entries m in
-      let N = in_front order lo s in
+      let N = before_range order lo s in
       let W = within order lo hi s in
-      let B = behind order lo hi s in
+      let B = after_range order lo hi s in
       let i = length (before_gap_in m front) in
       let j = length (before_gap_in m back) in
       let parts = range_parts fits lo hi s r.ascending in
@@ -65,7 +65,7 @@ module _ {K Q V Z : Type 0} {cmp : K → K → Ordering} {order : K → Q → Or
       let last = same_cut (before_gap_in m back) (after_gap_in m back) (N ++ W) B
       (sym (gap_entries m back r.sound r.ends.1) ∙ parts ∙ sym (append_assoc N W B)) more in
       record {
-        ahead = first.0;
+        before = first.0;
         amid = ap (take (j - i)) (ap (drop i) parts ∙ drop_place N (W ++ B) i (sym n))
             ∙ take_place W B (j - i) (let l = length-append N W in omega (arith, more, n, l));
         after = last.1;
@@ -77,7 +77,7 @@ module _ {K Q V Z : Type 0} {cmp : K → K → Ordering} {order : K → Q → Or
       → R (within order lo hi (entries m)) stay × (entries new ≡ replacing order lo hi stay (entries m))
   replaced R new stay r a e =
       let c = cut_in r in
-      let is = e ∙ ap (λ z. z ++ (stay ++ after_gap_in m back)) c.ahead ∙ ap (λ z. in_front order lo (entries m) ++ (stay ++ z)) c.after in
+      let is = e ∙ ap (λ z. z ++ (stay ++ after_gap_in m back)) c.before ∙ ap (λ z. before_range order lo (entries m) ++ (stay ++ z)) c.after in
       (subst (λ x. R x stay) c.amid a, is)
 
   -- and where none stays
@@ -87,10 +87,10 @@ module _ {K Q V Z : Type 0} {cmp : K → K → Ordering} {order : K → Q → Or
   removed new gone r e l =
       let c = cut_in r in
       let s = entries m in
-      let N = in_front order lo s in
+      let N = before_range order lo s in
       let W = within order lo hi s in
-      let B = behind order lo hi s in
-      let is : entries new ≡ N ++ B = e ∙ ap (λ z. z ++ after_gap_in m back) c.ahead ∙ ap (λ z. N ++ z) c.after in
+      let B = after_range order lo hi s in
+      let is : entries new ≡ N ++ B = e ∙ ap (λ z. z ++ after_gap_in m back) c.before ∙ ap (λ z. N ++ z) c.after in
       let a = ap length (range_parts fits lo hi s r.ascending) ∙ length-append N (W ++ B) in
       let b = length-append W B in
       let d = ap length is ∙ length-append N B in

@@ -28,13 +28,13 @@ module _ {K V : Type 0} where
 
   -- no write is left
   pub write_end : (t r : Stretch K V) (ws : List (Bool × V)) (i : ℕ) → length ws ≤ i → wrote_all t (drop i ws) ≡ r → t.list ≡ r.list
-  write_end t r ws i l h = ap (λ x. x.list) (ap (λ q. wrote_all t q) (sym (past ws i l)) ∙ h)
+  write_end t r ws i l h = ap (λ x. x.list) (ap (λ q. wrote_all t q) (sym (after ws i l)) ∙ h)
     where
-      past : (xs : List (Bool × V)) (i : ℕ) → length xs ≤ i → drop i xs ≡ []
-      past [] zero l = refl
-      past [] (suc i) l = refl
-      past (x ∷ xs) zero l = absurd (omega arith)
-      past (x ∷ xs) (suc i) l = past xs i (omega arith)
+      after : (xs : List (Bool × V)) (i : ℕ) → length xs ≤ i → drop i xs ≡ []
+      after [] zero l = refl
+      after [] (suc i) l = refl
+      after (x ∷ xs) zero l = absurd (omega arith)
+      after (x ∷ xs) (suc i) l = after xs i (omega arith)
 
   -- from the stretch s, the first i of the writes made t, and count of them were lent a place
   pub record IsUnderWay (s t : Stretch K V) (ws : List (Bool × V)) (i count : ℕ) : Type 0 where

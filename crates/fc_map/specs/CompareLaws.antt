@@ -28,6 +28,6 @@ module _ {K V : Type 0} where
   pub pairs_tie : {E : K → K → Bool} {F : V → V → Bool} (R : K → K → Ordering) (S : V → V → Ordering) → ((x y : K) → E x y ≡ eq_by_cmp R x y) → ((x y : V) → F x y ≡ eq_by_cmp S x y) → (s t : List (K × V)) → pointwise (pair_eq E F) s t ≡ eq_by_cmp (slice_cmp (pair_cmp R S)) s t
   pairs_tie R S a b = lists_ties (pair_cmp R S) (λ p q. both_tied _ _ (R p.0 q.0) (S p.1 q.1) (a p.0 q.0) (b p.1 q.1))
 
-  -- Equal lists feed the same: `items_Alike` says so with the length ahead.
+  -- Equal lists feed the same: `items_Alike` says so with the length first.
   pub pairs_Alike : {E : K → K → Bool} {D : V → V → Bool} {F : K → HashWrites} {G : V → HashWrites} → Alike E F → Alike D G → Alike (pointwise (pair_eq E D)) (flat_map (pair_input F G))
   pairs_Alike a b = record { fed = λ s t h. ap (drop 1) ((items_Alike (and-Alike (on_Alike (λ p. p.0) a) (on_Alike (λ p. p.1) b))).fed s t h) }

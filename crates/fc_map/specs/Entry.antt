@@ -83,15 +83,15 @@ module _ {K V Z : Type 0} {g : ord.Ghosts K} {g' : eq.Ghosts K} {g'' : partial.G
   abbrev pub IsLastOf : OccupiedEntry K V Z g g' g'' → List (K × V) → Type 0
   IsLastOf o s = (p : K × V) × (entry_pair (Occupied o) ≡ Some p) × (s ≡ list_without (Occupied o) ++ p ∷ []) × ((v : V) → list_with (Occupied o) v ≡ list_without (Occupied o) ++ (p.0, v) ∷ [])
 
-  -- The entry is the first pair after those ahead: what is left without it, and what stands there with v in it.
-  abbrev pub IsFirstBehind : OccupiedEntry K V Z g g' g'' → List (K × V) → List (K × V) → Type 0
-  IsFirstBehind o ahead behind = (p : K × V) × (rest : List (K × V)) × (entry_pair (Occupied o) ≡ Some p) × (behind ≡ p ∷ rest)
-      × (list_without (Occupied o) ≡ ahead ++ rest) × ((v : V) → list_with (Occupied o) v ≡ ahead ++ (p.0, v) ∷ rest)
+  -- The entry is the first pair after those before it: what is left without it, and what stands there with v in it.
+  abbrev pub IsFirstAfter : OccupiedEntry K V Z g g' g'' → List (K × V) → List (K × V) → Type 0
+  IsFirstAfter o before after = (p : K × V) × (rest : List (K × V)) × (entry_pair (Occupied o) ≡ Some p) × (after ≡ p ∷ rest)
+      × (list_without (Occupied o) ≡ before ++ rest) × ((v : V) → list_with (Occupied o) v ≡ before ++ (p.0, v) ∷ rest)
 
   -- The entry is the last pair before those after.
-  abbrev pub IsLastAhead : OccupiedEntry K V Z g g' g'' → List (K × V) → List (K × V) → Type 0
-  IsLastAhead o ahead behind = (p : K × V) × (lead : List (K × V)) × (entry_pair (Occupied o) ≡ Some p) × (ahead ≡ lead ++ p ∷ [])
-      × (list_without (Occupied o) ≡ lead ++ behind) × ((v : V) → list_with (Occupied o) v ≡ lead ++ (p.0, v) ∷ behind)
+  abbrev pub IsLastBefore : OccupiedEntry K V Z g g' g'' → List (K × V) → List (K × V) → Type 0
+  IsLastBefore o before after = (p : K × V) × (lead : List (K × V)) × (entry_pair (Occupied o) ≡ Some p) × (before ≡ lead ++ p ∷ [])
+      × (list_without (Occupied o) ≡ lead ++ after) × ((v : V) → list_with (Occupied o) v ≡ lead ++ (p.0, v) ∷ after)
 
 module _ (K V Z : RattleType) {g : ord.Ghosts K.Denot} {g' : eq.Ghosts K.Denot} {g'' : partial.Ghosts K.Denot} (heap : Ghosts Z.Denot) where
   -- Once the borrow r ends, the map has the last value written through r in the entry's pair.

@@ -1,0 +1,2 @@
+pub mod WalkSizes
+pub mod OwnedFacts

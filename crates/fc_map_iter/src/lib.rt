@@ -4,5 +4,7 @@
 pub mod compare;
 mod debug;
 pub mod into_iter;
+pub mod into_keys;
+pub mod into_values;
 pub mod iter;
 pub mod range;

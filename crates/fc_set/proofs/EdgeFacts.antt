@@ -1,4 +1,4 @@
--- Items that are a key and an id, ordered by the keys and then by the ids, stand in front of an edge of a key or behind it.
+-- Items that are a key and an id, ordered by the keys and then by the ids, stand before an edge of a key or after it.
 use Rattle.std.proofs.Common.{◌≡◌, Bool, true, false, cond, ap, sym, ◌∙◌, refl}
 use Rattle.std.specs.Cmp.{IsTotalOrder}
 use Rattle.std.specs.Ordering.{ordering_then, ordering_reverse}
@@ -7,9 +7,9 @@ use Rattle.std.specs.declared.cmp.Ordering.TheVariants.{Less, Equal, Greater}
 use Rattle.fc_base.specs.Query.{IsQueryOrder}
 use Rattle.fc_base.specs.Viewed.{over_one}
 
--- Behind an edge that is in front of its key's items.
+-- After an edge that is before its key's items.
 abbrev side : Bool → Ordering
-side in_front = cond in_front Greater Less
+side before = cond before Greater Less
 
 module _ {K I : Type 0} (cmp : K → K → Ordering) (ids : I → I → Ordering) where
   -- no pair stands at an edge
@@ -42,12 +42,12 @@ module _ {K I : Type 0} (cmp : K → K → Ordering) (ids : I → I → Ordering
     above_both Equal p i j l g = ap (λ o. ordering_then o (side q.1)) (sym (total.congr x.0 y.0 q.0 i) ∙ j) ∙ g
     above_both Greater p i j l g = absurd cc
 
-  -- The pairs in front of an edge come first, then those behind it.
+  -- The pairs before an edge come first, then those after it.
   pub edges_fit : IsTotalOrder cmp → IsQueryOrder (λ (x y : K × I). ordering_then (cmp x.0 y.0) (ids x.1 y.1))
       (λ (x : K × I) (edge : K × Bool). ordering_then (cmp x.0 edge.0) (side edge.1))
   edges_fit total = record {
     same = λ q x y e. absurd (never (cmp x.0 q.0) q.1 e);
     lower = λ q x y l e. below_both total q x y (cmp x.0 y.0) (cmp y.0 q.0) refl refl l e;
-    past = λ q x y l e. absurd (never (cmp x.0 q.0) q.1 e);
+    after = λ q x y l e. absurd (never (cmp x.0 q.0) q.1 e);
     upper = λ q x y l g. above_both total q x y (cmp x.0 y.0) (cmp x.0 q.0) refl refl l g;
   }

@@ -16,7 +16,7 @@ use Rattle.fc_base.specs.Joined.{placed, joined}
 use Rattle.fc_base.specs.OneKey.{put, cut}
 use Rattle.fc_base.specs.Parts.{below, above, at, value_at}
 use Rattle.fc_base.specs.Ranges.{starts, stops, within}
-use Rattle.fc_map.specs.Ranged.{in_front, behind, outside, replacing}
+use Rattle.fc_map.specs.Ranged.{before_range, after_range, outside, replacing}
 use Rattle.fc_set.specs.Items.{item_at, smaller, greater, not_smaller, without, AreAscending, with_item, with_replaced, joined_items}
 use Rattle.fc_set.specs.Items.{items_within, items_outside, items_replacing}
 
@@ -73,12 +73,12 @@ module _ {T V : Type 0} where
   pub items_replacing_keys : {Q : Type 0} (cmp : T → Q → Ordering) (lo hi : Bound Q) (stay s : List (T × V))
       → items_replacing cmp lo hi (keys stay) (keys s) ≡ keys (replacing cmp lo hi stay s)
   items_replacing_keys cmp lo hi stay s =
-      ap (λ l. l ++ (keys stay ++ keys_behind)) (filter_keys _ s) ∙ ap (λ l. keys (in_front cmp lo s) ++ (keys stay ++ l)) (filter_keys _ s)
-      ∙ ap (λ l. keys (in_front cmp lo s) ++ l) (sym (map-append (λ e. e.0) stay (behind cmp lo hi s)))
-      ∙ sym (map-append (λ e. e.0) (in_front cmp lo s) (stay ++ behind cmp lo hi s))
+      ap (λ l. l ++ (keys stay ++ keys_after)) (filter_keys _ s) ∙ ap (λ l. keys (before_range cmp lo s) ++ (keys stay ++ l)) (filter_keys _ s)
+      ∙ ap (λ l. keys (before_range cmp lo s) ++ l) (sym (map-append (λ e. e.0) stay (after_range cmp lo hi s)))
+      ∙ sym (map-append (λ e. e.0) (before_range cmp lo s) (stay ++ after_range cmp lo hi s))
     where
-      keys_behind : List T
-      keys_behind = filter (λ x. starts cmp lo x && not (stops cmp hi x)) (keys s)
+      keys_after : List T
+      keys_after = filter (λ x. starts cmp lo x && not (stops cmp hi x)) (keys s)
 
   module _ (cmp : T → T → Ordering) where
     around : (s : List (T × V)) (x : T) (e : T × V) → smaller cmp (keys s) x ++ e.0 ∷ greater cmp (keys s) x ≡ keys (below cmp s x ++ e ∷ above cmp s x)

@@ -14,7 +14,18 @@ use Rattle.fc_base.proofs.AscendingFacts.{under_one}
 use Rattle.fc_set.specs.Items.{AreAscending, joined_items}
 use Rattle.fc_set.specs.Operations.{difference, common, symmetric_difference, intersection, union}
 use Rattle.fc_set.specs.Sides.{begin_filtering, begin_with_shorter}
-use Rattle.fc_set.proofs.SideFacts.{IsBelow, below_on, tied_back, common_of_none, common_ours, common_past, common_tied, joined_first, joined_ours, joined_tied}
+use Rattle.fc_set.proofs.SideFacts.{
+  IsBelow,
+  below_on,
+  tied_back,
+  common_of_none,
+  common_ours,
+  common_after,
+  common_tied,
+  joined_first,
+  joined_ours,
+  joined_tied,
+}
 use Rattle.fc_set.proofs.SideFacts.{joined_to_none, ascending_kept}
 
 module _ {T : Type 0} (cmp : T → T → Ordering) (total : IsTotalOrder cmp) where
@@ -34,7 +45,7 @@ module _ {T : Type 0} (cmp : T → T → Ordering) (total : IsTotalOrder cmp) wh
           let below : IsBelow cmp x (y ∷ t) = (e, below_on cmp total x y t e b.0) in
           let u = ap length (joined_ours cmp total s (y ∷ t) x a.0 below) in
           let c = ap length (common_ours cmp total s (y ∷ t) x below) in
-          let d = ap length (common_past cmp (y ∷ t) s x below) in
+          let d = ap length (common_after cmp (y ∷ t) s x below) in
           (omega (arith, u, c, i.0), c ∙ i.1 ∙ sym d)
       go Equal e i j k =
           let u = ap length (joined_tied cmp total s t x y e a.0 b.0) in
@@ -45,7 +56,7 @@ module _ {T : Type 0} (cmp : T → T → Ordering) (total : IsTotalOrder cmp) wh
           let less : cmp y x ≡ Less = under_one cmp total y x e in
           let below : IsBelow cmp y (x ∷ s) = (less, below_on cmp total y x s less a.0) in
           let u = ap length (joined_first cmp (x ∷ s) t y below) in
-          let c = ap length (common_past cmp (x ∷ s) t y below) in
+          let c = ap length (common_after cmp (x ∷ s) t y below) in
           let d = ap length (common_ours cmp total t (x ∷ s) y below) in
           (omega (arith, u, c, k.0), c ∙ k.1 ∙ sym d)
 

@@ -32,8 +32,8 @@ module _ {T : Type 0} (cmp : T → T → Ordering) where
   filtered f s t = filter (λ x. f (item_at cmp t x)) s
 
   -- An item below all of the other side passes nothing there.
-  filtered_past : (f : Option T → Bool) (s t : List T) (y : T) → IsBelow y s → filtered f s (y ∷ t) ≡ filtered f s t
-  filtered_past f s t y below = filter_alike _ _ s (all_map _ _ (λ x less. rw less refl) s below)
+  filtered_after : (f : Option T → Bool) (s t : List T) (y : T) → IsBelow y s → filtered f s (y ∷ t) ≡ filtered f s t
+  filtered_after f s t y below = filter_alike _ _ s (all_map _ _ (λ x less. rw less refl) s below)
 
   -- Two sides that hold nothing in common where one is empty.
   pub difference_of_none : (s : List T) → difference cmp s [] ≡ s
@@ -45,11 +45,11 @@ module _ {T : Type 0} (cmp : T → T → Ordering) where
   common_of_none (x ∷ s) = common_of_none s
 
   -- The second's first item is below all of the first.
-  pub difference_past : (s t : List T) (y : T) → IsBelow y s → difference cmp s (y ∷ t) ≡ difference cmp s t
-  difference_past s t y below = filtered_past is_none s t y below
+  pub difference_after : (s t : List T) (y : T) → IsBelow y s → difference cmp s (y ∷ t) ≡ difference cmp s t
+  difference_after s t y below = filtered_after is_none s t y below
 
-  pub common_past : (s t : List T) (y : T) → IsBelow y s → common cmp s (y ∷ t) ≡ common cmp s t
-  common_past s t y below = filtered_past is_some s t y below
+  pub common_after : (s t : List T) (y : T) → IsBelow y s → common cmp s (y ∷ t) ≡ common cmp s t
+  common_after s t y below = filtered_after is_some s t y below
 
   pub joined_first : (s t : List T) (y : T) → IsBelow y s → joined_items cmp (y ∷ t) s ≡ y ∷ joined_items cmp t s
   joined_first [] t y below = refl
@@ -97,10 +97,10 @@ module _ {T : Type 0} (cmp : T → T → Ordering) where
 
     -- Both first items are equal.
     pub difference_tied : (s t : List T) (x y : T) → cmp x y ≡ Equal → IsBelow x s → difference cmp (x ∷ s) (y ∷ t) ≡ difference cmp s t
-    difference_tied s t x y same below = rw (tied_back x y same) (difference_past s t y (below_tied y x s (tied_back x y same) below))
+    difference_tied s t x y same below = rw (tied_back x y same) (difference_after s t y (below_tied y x s (tied_back x y same) below))
 
     pub common_tied : (s t : List T) (x y : T) → cmp x y ≡ Equal → IsBelow x s → common cmp (x ∷ s) (y ∷ t) ≡ x ∷ common cmp s t
-    common_tied s t x y same below = rw (tied_back x y same) (ap (λ l. x ∷ l) (common_past s t y (below_tied y x s (tied_back x y same) below)))
+    common_tied s t x y same below = rw (tied_back x y same) (ap (λ l. x ∷ l) (common_after s t y (below_tied y x s (tied_back x y same) below)))
 
     pub joined_tied : (s t : List T) (x y : T) → cmp x y ≡ Equal → IsBelow x s → IsBelow y t → joined_items cmp (y ∷ t) (x ∷ s) ≡ x ∷ joined_items cmp t s
     joined_tied s t x y same later below = ap (λ l. joined_items cmp l s) (placed ∙ placed_first x t (below_tied x y t same below)) ∙ joined_first s t x later
@@ -116,11 +116,11 @@ module _ {T : Type 0} (cmp : T → T → Ordering) where
     -- Both sides of a symmetric difference, by the same three cases.
     pub symmetric_ours : (s t : List T) (x : T) → IsBelow x s → IsBelow x t → symmetric_difference cmp (x ∷ s) t ≡ x ∷ symmetric_difference cmp s t
     symmetric_ours s t x later below =
-        rw (difference_ours s t x below, difference_past t s x below) (joined_first (difference cmp t s) (difference cmp s t) x (all_filter _ _ t below))
+        rw (difference_ours s t x below, difference_after t s x below) (joined_first (difference cmp t s) (difference cmp s t) x (all_filter _ _ t below))
 
     pub symmetric_theirs : (s t : List T) (y : T) → IsBelow y s → IsBelow y t → symmetric_difference cmp s (y ∷ t) ≡ y ∷ symmetric_difference cmp s t
     symmetric_theirs s t y below later =
-        rw (difference_past s t y below, difference_ours t s y below) (joined_ours (difference cmp t s) (difference cmp s t) y (all_filter _ _ t later)
+        rw (difference_after s t y below, difference_ours t s y below) (joined_ours (difference cmp t s) (difference cmp s t) y (all_filter _ _ t later)
         (all_filter _ _ s below))
 
     pub symmetric_tied : (s t : List T) (x y : T) → cmp x y ≡ Equal → IsBelow x s → IsBelow y t
@@ -139,19 +139,19 @@ module _ {T : Type 0} (cmp : T → T → Ordering) where
   alike_itself [] s = tt
   alike_itself (z ∷ over) s = (refl, alike_itself over s)
 
-  pub alike_past : (over s s' : List T) (x : T) → IsBelow x over → AreAlike over (x ∷ s) s' → AreAlike over s s'
-  alike_past [] s s' x below a = tt
-  alike_past (z ∷ over) s s' x below a = (sym past ∙ a.0, alike_past over s s' x below.1 a.1)
+  pub alike_after : (over s s' : List T) (x : T) → IsBelow x over → AreAlike over (x ∷ s) s' → AreAlike over s s'
+  alike_after [] s s' x below a = tt
+  alike_after (z ∷ over) s s' x below a = (sym after ∙ a.0, alike_after over s s' x below.1 a.1)
     where
-      past : greater cmp (x ∷ s) z ≡ greater cmp s z
-      past = rw below.0 refl
+      after : greater cmp (x ∷ s) z ≡ greater cmp s z
+      after = rw below.0 refl
 
   -- What a walk over both leaves of the first where no item is common.
   pub untaken_ours : (s t : List T) (x y : T) → cmp y x ≡ Greater → untaken cmp (x ∷ s) (y ∷ t) ≡ untaken cmp s (y ∷ t)
   untaken_ours s t x y over = rw over refl
 
-  pub untaken_past : (s t : List T) (y : T) → IsBelow y s → untaken cmp s (y ∷ t) ≡ untaken cmp s t
-  untaken_past s t y below = ap (drop 1) (filter_alike _ _ s (all_map _ _ (λ x less. rw less refl) s below))
+  pub untaken_after : (s t : List T) (y : T) → IsBelow y s → untaken cmp s (y ∷ t) ≡ untaken cmp s t
+  untaken_after s t y below = ap (drop 1) (filter_alike _ _ s (all_map _ _ (λ x less. rw less refl) s below))
 
   pub untaken_of_none : (x : T) (s : List T) → untaken cmp (x ∷ s) [] ≡ s
   untaken_of_none x s = difference_of_none s

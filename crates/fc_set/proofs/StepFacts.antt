@@ -10,10 +10,10 @@ use Rattle.fc_base.specs.Viewed.{over_one}
 use Rattle.fc_base.proofs.AscendingFacts.{under_one}
 use Rattle.fc_set.specs.Items.{item_at, greater, AreAscending, joined_items}
 use Rattle.fc_set.specs.Operations.{difference, common, symmetric_difference, union}
-use Rattle.fc_set.specs.Sides.{Sides, AreFirsts, untaken, past_item}
+use Rattle.fc_set.specs.Sides.{Sides, AreFirsts, untaken, after_item}
 use Rattle.fc_set.proofs.SideFacts.{IsBelow, below_on, below_tied, tied_back, greater_all, after_first, joined_first, joined_ours, joined_tied, symmetric_ours}
-use Rattle.fc_set.proofs.SideFacts.{symmetric_theirs, symmetric_tied, AreAlike, alike_past, alike_itself, difference_ours, difference_past, difference_tied}
-use Rattle.fc_set.proofs.SideFacts.{common_of_none, common_ours, common_past, common_tied, untaken_ours, untaken_past, untaken_of_none}
+use Rattle.fc_set.proofs.SideFacts.{symmetric_theirs, symmetric_tied, AreAlike, alike_after, alike_itself, difference_ours, difference_after, difference_tied}
+use Rattle.fc_set.proofs.SideFacts.{common_of_none, common_ours, common_after, common_tied, untaken_ours, untaken_after, untaken_of_none}
 
 not_there : {T : Type 0} (b : Bool) (o : Option T) → (IsTrue b ↔ IsSome o) → b ≡ false → is_some o ≡ false
 not_there b None h e = refl
@@ -67,7 +67,7 @@ module _ {T : Type 0} (cmp : T → T → Ordering) (total : IsTotalOrder cmp) wh
   yields_first operation (Some x) s t w none h = h.0
 
   pub stands_after : (operation : List T → List T → List T) (r : Option (Bor T)) (old w : Sides T) → IsStep operation r old.left old.right w
-      → MatchOption r ((w.left ≡ []) × (w.right ≡ [])) (λ x. w ≡ past_item cmp old x.now)
+      → MatchOption r ((w.left ≡ []) × (w.right ≡ [])) (λ x. w ≡ after_item cmp old x.now)
   stands_after operation None old w h = (h.1, h.2)
   stands_after operation (Some x) old w h = λ i. record { left = h.1 i; right = h.2 i }
 
@@ -89,17 +89,17 @@ module _ {T : Type 0} (cmp : T → T → Ordering) (total : IsTotalOrder cmp) wh
       let below = below_tied cmp total x.now y.now w.right f.0 f.2 in (
         joined_tied cmp total w.left w.right x.now y.now f.0 f.1 f.2,
         sym (after_first cmp total x.now w.left f.1),
-        sym (past_tied x.now y.now w.right f.0 ∙ greater_all cmp total x.now w.right below),
+        sym (after_tied x.now y.now w.right f.0 ∙ greater_all cmp total x.now w.right below),
       )
     where
-      past_tied : (x y : T) (t : List T) → cmp x y ≡ Equal → greater cmp (y ∷ t) x ≡ greater cmp t x
-      past_tied x y t e = rw (tied_back cmp total x y e) refl
+      after_tied : (x y : T) (t : List T) → cmp x y ≡ Equal → greater cmp (y ∷ t) x ≡ greater cmp t x
+      after_tied x y t e = rw (tied_back cmp total x y e) refl
 
   pub union_step : (a b r : Option (Bor T)) (s t : List T) (w : Sides T) → r ≡ option_or a b → s ≡ option_to_list (option_copied a) ++ w.left
       → t ≡ option_to_list (option_copied b) ++ w.right → AreFirsts cmp (option_copied a) (option_copied b) w → IsStep (union cmp) r s t w
   union_step a b r s t w is ours theirs firsts = rw (is, ours, theirs) (union_given a b w firsts)
 
-  -- A symmetric difference goes past two equal items, and gives one that has no equal.
+  -- A symmetric difference goes over two equal items, and gives one that has no equal.
   module _ (s' t' s t : List T) (w : Sides T) (same : symmetric_difference cmp s' t' ≡ symmetric_difference cmp s t) (alike : BothAlike cmp s t s' t') where
     pub symmetric_goes_on : (x y : T) → s ≡ x ∷ w.left → t ≡ y ∷ w.right → AreFirsts cmp (Some x) (Some y) w
         → (symmetric_difference cmp s' t' ≡ symmetric_difference cmp w.left w.right) × BothAlike cmp w.left w.right s' t'
@@ -114,13 +114,13 @@ module _ {T : Type 0} (cmp : T → T → Ordering) (total : IsTotalOrder cmp) wh
               ∙ symmetric_tied cmp total w.left w.right x y firsts.0 firsts.1 firsts.2,
           (
             (
-              alike_past cmp w.left w.left s' x firsts.1 ours,
-              alike_past cmp w.left w.right t' y
+              alike_after cmp w.left w.left s' x firsts.1 ours,
+              alike_after cmp w.left w.right t' y
                   (below_tied cmp total y x w.left (tied_back cmp total x y firsts.0) firsts.1) over_ours,
             ),
             (
-              alike_past cmp w.right w.left s' x (below_tied cmp total x y w.right firsts.0 firsts.2) over_theirs,
-              alike_past cmp w.right w.right t' y firsts.2 theirs,
+              alike_after cmp w.right w.left s' x (below_tied cmp total x y w.right firsts.0 firsts.2) over_theirs,
+              alike_after cmp w.right w.right t' y firsts.2 theirs,
             ),
           ),
         )
@@ -179,14 +179,14 @@ module _ {T : Type 0} (cmp : T → T → Ordering) (total : IsTotalOrder cmp) wh
     apart_tied y e a = (
       a.0 ∙ difference_tied cmp total s t x y e a.1.0.0,
       (a.1.0.1, a.1.1.1),
-      (alike_past cmp s s s' x a.1.0.0 a.2.0.1, alike_past cmp s t t' y (below_tied cmp total y x s (tied_back cmp total x y e) a.1.0.0) a.2.1.1),
+      (alike_after cmp s s s' x a.1.0.0 a.2.0.1, alike_after cmp s t t' y (below_tied cmp total y x s (tied_back cmp total x y e) a.1.0.0) a.2.1.1),
     )
 
-    pub apart_past : (y : T) → cmp x y ≡ Greater → IsApart cmp (x ∷ s) (y ∷ t) s' t' → IsApart cmp (x ∷ s) t s' t'
-    apart_past y e a =
+    pub apart_after : (y : T) → cmp x y ≡ Greater → IsApart cmp (x ∷ s) (y ∷ t) s' t' → IsApart cmp (x ∷ s) t s' t'
+    apart_after y e a =
         let less : cmp y x ≡ Less = under_one cmp total y x e in
         let below : IsBelow cmp y (x ∷ s) = (less, below_on cmp total y x s less a.1.0.0) in
-        (a.0 ∙ difference_past cmp (x ∷ s) t y below, (a.1.0, a.1.1.1), (a.2.0, alike_past cmp (x ∷ s) t t' y below a.2.1))
+        (a.0 ∙ difference_after cmp (x ∷ s) t y below, (a.1.0, a.1.1.1), (a.2.0, alike_after cmp (x ∷ s) t t' y below a.2.1))
 
     apart_found : IsBelow cmp x t → IsApart cmp (x ∷ s) t s' t' → (difference cmp s' t' ≡ x ∷ difference cmp s t) × (s ≡ greater cmp s' x)
         × (t ≡ greater cmp t' x)
@@ -209,7 +209,7 @@ module _ {T : Type 0} (cmp : T → T → Ordering) (total : IsTotalOrder cmp) wh
         let below : IsBelow cmp x (y ∷ t) = (e, below_on cmp total x y t e a.1.1.0) in (
           a.0 ∙ common_ours cmp total s (y ∷ t) x below,
           (a.1.0.1, a.1.1),
-          (alike_past cmp s s s' x a.1.0.0 a.2.0.1, a.2.1.1),
+          (alike_after cmp s s s' x a.1.0.0 a.2.0.1, a.2.1.1),
           a.3
               ∙ untaken_ours cmp s t x y (over_one cmp total x y e),
         )
@@ -218,21 +218,21 @@ module _ {T : Type 0} (cmp : T → T → Ordering) (total : IsTotalOrder cmp) wh
     common_greater e a =
         let less : cmp y x ≡ Less = under_one cmp total y x e in
         let below : IsBelow cmp y (x ∷ s) = (less, below_on cmp total y x s less a.1.0.0) in (
-          a.0 ∙ common_past cmp (x ∷ s) t y below,
+          a.0 ∙ common_after cmp (x ∷ s) t y below,
           (a.1.0, a.1.1.1),
-          (a.2.0, alike_past cmp (x ∷ s) t t' y below a.2.1),
+          (a.2.0, alike_after cmp (x ∷ s) t t' y below a.2.1),
           a.3
-              ∙ untaken_past cmp (x ∷ s) t y below,
+              ∙ untaken_after cmp (x ∷ s) t y below,
         )
 
     pub common_equal : cmp x y ≡ Equal → IsCommon cmp (x ∷ s) (y ∷ t) s' t'
         → (common cmp s' t' ≡ x ∷ common cmp s t) × (s ≡ greater cmp s' x) × (t ≡ greater cmp t' x)
     common_equal e a =
-        let past : greater cmp (y ∷ t) x ≡ greater cmp t x = rw (tied_back cmp total x y e) refl in (
+        let after : greater cmp (y ∷ t) x ≡ greater cmp t x = rw (tied_back cmp total x y e) refl in (
           a.0 ∙ common_tied cmp total s t x y e a.1.0.0,
           sym (after_first cmp total x s a.1.0.0)
               ∙ a.2.0.0,
-          sym (greater_all cmp total x t (below_tied cmp total x y t e a.1.1.0)) ∙ sym past ∙ a.2.1.0,
+          sym (greater_all cmp total x t (below_tied cmp total x y t e a.1.1.0)) ∙ sym after ∙ a.2.1.0,
         )
 
   -- It ends with either side.
@@ -254,8 +254,8 @@ module _ {T : Type 0} (cmp : T → T → Ordering) (total : IsTotalOrder cmp) wh
       here : IsSought cmp operation (x ∷ u) s'
       here = subst (λ l. IsSought cmp operation l s') e a
 
-      pub sought_past : operation (x ∷ u) ≡ operation u → IsSought cmp operation u s'
-      sought_past p = (here.0 ∙ p, here.1.1, alike_past cmp u u s' x here.1.0 here.2.1)
+      pub sought_after : operation (x ∷ u) ≡ operation u → IsSought cmp operation u s'
+      sought_after p = (here.0 ∙ p, here.1.1, alike_after cmp u u s' x here.1.0 here.2.1)
 
       pub sought_found : operation (x ∷ u) ≡ x ∷ operation u → (operation s' ≡ x ∷ operation u) × (u ≡ greater cmp s' x)
       sought_found p = (here.0 ∙ p, sym (after_first cmp total x u here.1.0) ∙ here.2.0)

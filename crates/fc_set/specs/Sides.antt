@@ -34,12 +34,12 @@ module _ {T : Type 0} where
 
   module _ (cmp : T → T → Ordering) where
     -- Each side from after an item on.
-    abbrev pub past_item : Sides T → T → Sides T
-    past_item w x = record { left = greater cmp w.left x; right = greater cmp w.right x }
+    abbrev pub after_item : Sides T → T → Sides T
+    after_item w x = record { left = greater cmp w.left x; right = greater cmp w.right x }
 
     -- The same, where a set that is looked up in stays.
-    abbrev pub filtered_past : Filtering T → T → Filtering T
-    filtered_past w x = record { left = greater cmp w.left x; right = if w.looks_up then w.right else greater cmp w.right x; looks_up = w.looks_up }
+    abbrev pub filtered_after : Filtering T → T → Filtering T
+    filtered_after w x = record { left = greater cmp w.left x; right = if w.looks_up then w.right else greater cmp w.right x; looks_up = w.looks_up }
 
     -- What a walk over both leaves of the first where no item has an equal: it takes the first item that is greater than all of the second, or ends with the first.
     abbrev pub untaken : List T → List T → List T

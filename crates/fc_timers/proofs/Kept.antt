@@ -12,7 +12,7 @@ use Rattle.fc_timers.specs.declared.slot.First.{First}
 use Rattle.fc_timers.specs.declared.slot.Slot.{Slot}
 use Rattle.fc_timers.specs.Timers.{Queue, armed, renewed, timer_count, IsChanged, IsPopped}
 use Rattle.fc_timers.specs.Tournament.{helds, firsts, nexts, own_first, earlier, IsSettledBut, IsFirst, IsGivenOut, IsSound, IsVacantList}
-use Rattle.fc_timers.proofs.Listed.{listed_ahead, listed_as, listed_new, listed_rest, listed_still}
+use Rattle.fc_timers.proofs.Listed.{listed_before, listed_as, listed_new, listed_rest, listed_still}
 use Rattle.fc_timers.proofs.Standing.{given_out_set, get_or_push_none, in_slot, IsNext, slot_changed, none_numbered, not_later, some_numbered}
 
 abbrev one : {X : Type 0} → Option X → ℕ
@@ -79,7 +79,7 @@ module _ {T V : Type 0} {cmp : T → T → Ordering} (slots new : List (Slot T V
           vacancies = suc sound.vacancies;
           total = omega (arith, sound.counted, sound.total, as_long None written);
           listed = listed_as _ _ _ _ (suc sound.vacancies) k written named
-              (listed_ahead (helds slots) (nexts slots) sound.vacancies k a
+              (listed_before (helds slots) (nexts slots) sound.vacancies k a
               (omega (arith, (lengths slots).0, (lengths slots).1)) inside was vacant sound.listed);
         },
       )
@@ -114,7 +114,7 @@ module _ {T V : Type 0} {cmp : T → T → Ordering} (slots : List (Slot T V)) (
       → (m : ℕ) × (len + suc m ≡ length slots) × IsVacantList (helds slots) (nexts slots) (suc m) vacant
   asked_vacancy asked = first_vacancy (omega (arith, asked, sound.counted, length-map slots (λ s. s.held)))
 
-  -- A vacant slot behind the others changes nothing else.
+  -- A vacant slot after the others changes nothing else.
   pub sound_pushed : (last : Slot T V) → last.held ≡ None → last.first ≡ None → last.next_vacant ≡ vacant → (at : ℕ) → at ≡ length slots
       → IsSound cmp (slots ++ last ∷ []) len n at
   sound_pushed last held first next at is =

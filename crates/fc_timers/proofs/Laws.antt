@@ -51,13 +51,13 @@ module _ {X : Type 0} where
   filter_alike p q [] a = refl
   filter_alike p q (x ∷ s) a = ap (λ b. cond b (x ∷ filter p s) (filter p s)) a.0 ∙ ap (λ l. cond (q x) (x ∷ l) l) (filter_alike p q s a.1)
 
--- an entry with a smaller turn is ahead of another at its time, and not behind it
-ahead : (r d : Ordering) → d ≡ Less → (is_lt (ordering_then r d) ≡ is_le r) × (is_gt (ordering_then r d) ≡ is_gt r)
-ahead Less d e = (refl, refl)
-ahead Equal d e = (ap is_lt e, ap is_gt e)
-ahead Greater d e = (refl, refl)
+-- an entry with a smaller turn is before another at its time, and not after it
+before : (r d : Ordering) → d ≡ Less → (is_lt (ordering_then r d) ≡ is_le r) × (is_gt (ordering_then r d) ≡ is_gt r)
+before Less d e = (refl, refl)
+before Equal d e = (ap is_lt e, ap is_gt e)
+before Greater d e = (refl, refl)
 
--- an entry that is not behind another one, and of another turn, is ahead of it
+-- an entry that is not after another one, and of another turn, is before it
 first : (r : Ordering) (m n : ℕ) → by_turn r (leb m n) ≡ true → m ≢ n → ordering_then r (nat_cmp m n) ≡ Less
 first Less m n h apart = refl
 first Equal m n h apart = let less : m < n = omega (arith, leb-true m n h) in sym (nat_cmp_is m n Less less)
@@ -189,11 +189,11 @@ module _ {T V : Type 0} (cmp : T → T → Ordering) (total : IsTotalOrder cmp) 
   in_order_inserted old new timer time value given none changed =
       with_one_more old new timer (newly old time value) changed none (next_apart old given) given.distinct
 
-  -- So it is behind all that are due by its time, and ahead of all others.
-  pub in_order_behind : (old new : Queue T V) (timer : Timer) (time : T) (value : V) → AreGivenOut old → armed old timer ≡ None
+  -- So it is after all that are due by its time, and before all others.
+  pub in_order_after : (old new : Queue T V) (timer : Timer) (time : T) (value : V) → AreGivenOut old → armed old timer ≡ None
       → IsChanged old new timer (Some (newly old time value))
       → in_order cmp new ≡ due_by cmp (in_order cmp old) time ++ ((time, old.next_number), (timer, value)) ∷ due_after cmp (in_order cmp old) time
-  in_order_behind old new timer time value given none changed =
+  in_order_after old new timer time value given none changed =
       let a = newly old time value in
       let s = in_order cmp old in
       let earlier : AllByRecursion (λ e. nat_cmp e.0.1 old.next_number ≡ Less) s = all_found (by_time_then_turn cmp) (order_total total) _ s
@@ -201,9 +201,9 @@ module _ {T V : Type 0} (cmp : T → T → Ordering) (total : IsTotalOrder cmp) 
       let is = (in_order_is_exact old given).each e.0 e h in
       ap (λ y. nat_cmp y.0.1 old.next_number) is.2 ∙ sym (nat_cmp_is is.0.turn old.next_number Less (given.turns e.1.0 is.0 is.1))) in
       let below_is : below (by_time_then_turn cmp) s (a.at, a.turn) ≡ due_by cmp s time =
-      filter_alike _ _ s (all_map _ _ (λ e h. (ahead (cmp e.0.0 time) (nat_cmp e.0.1 old.next_number) h).0) s earlier) in
+      filter_alike _ _ s (all_map _ _ (λ e h. (before (cmp e.0.0 time) (nat_cmp e.0.1 old.next_number) h).0) s earlier) in
       let above_is : above (by_time_then_turn cmp) s (a.at, a.turn) ≡ due_after cmp s time =
-      filter_alike _ _ s (all_map _ _ (λ e h. (ahead (cmp e.0.0 time) (nat_cmp e.0.1 old.next_number) h).1) s earlier) in
+      filter_alike _ _ s (all_map _ _ (λ e h. (before (cmp e.0.0 time) (nat_cmp e.0.1 old.next_number) h).1) s earlier) in
       in_order_inserted old new timer time value given none changed
       ∙ ap (λ o. below (by_time_then_turn cmp) s (a.at, a.turn) ++ (unwrap_or (option_map (λ e. e.0) o) (a.at, a.turn), (timer, value))
       ∷ above (by_time_then_turn cmp) s (a.at, a.turn)) (nothing_there old new timer a changed none (next_apart old given) given.distinct)

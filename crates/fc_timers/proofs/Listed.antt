@@ -32,10 +32,10 @@ module _ {T V : Type 0} where
         kept h (set h k o) x x k (omega (arith, length-set h k o)) (λ j within other. (get_or-set_other h k j o None other, refl)) n (get_or x k 0)
         (λ m below q. omega (arith, unique h x (suc n) (suc m) k fits p q)) p.2
 
-    -- A slot that held a timer stands ahead of the list that it names.
-    pub listed_ahead : (a : Armed T V) → length x ≡ length h → k < length h → get_or h k None ≡ Some a → (from : ℕ) → IsVacantList h x n from
+    -- A slot that held a timer stands before the list that it names.
+    pub listed_before : (a : Armed T V) → length x ≡ length h → k < length h → get_or h k None ≡ Some a → (from : ℕ) → IsVacantList h x n from
         → IsVacantList (set h k None) (set x k from) (suc n) k
-    listed_ahead a same within held from p =
+    listed_before a same within held from p =
         let rest = kept h (set h k None) x (set x k from) k (omega (arith, length-set h k None))
         (λ j inside other. (get_or-set_other h k j None None other, get_or-set_other x k j from 0 other)) n from
         (λ m below q. let none = q.1 in cc) p in (
@@ -51,7 +51,7 @@ module _ {T V : Type 0} where
         kept h (set h k o) x x k (omega (arith, length-set h k o)) (λ j within other. (get_or-set_other h k j o None other, refl)) n from
         (λ m below q. let none = q.1 in cc) p
 
-  -- A new slot stands ahead of the list that it names.
+  -- A new slot stands before the list that it names.
   pub listed_new : (h : List (Option (Armed T V))) (x : List ℕ) (n from : ℕ) → length x ≡ length h → IsVacantList h x n from
       → IsVacantList (h ++ None ∷ []) (x ++ from ∷ []) (suc n) (length h)
   listed_new h x n from same p =

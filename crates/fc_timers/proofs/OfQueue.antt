@@ -112,11 +112,11 @@ module _ {T V : Type 0} {cmp : T → T → Ordering} (total : IsTotalOrder cmp) 
           (0, a, refl, sym same ∙ ap (λ j. slot_entry j a) none)
       go false f rest = further k (Some a) h e (rest f)
 
-  -- What stands at each time and turn once a slot is listed ahead of others.
-  listed_ahead : (k : ℕ) (a : Armed T V) (h : List (Option (Armed T V))) → AreSlotsApart (Some a ∷ h) → (x : T × ℕ)
+  -- What stands at each time and turn once a slot is listed before others.
+  listed_before : (k : ℕ) (a : Armed T V) (h : List (Option (Armed T V))) → AreSlotsApart (Some a ∷ h) → (x : T × ℕ)
       → at (order cmp) (listed cmp k (Some a ∷ h)) x
       ≡ cond (is_eq (order cmp (a.at, a.turn) x)) (Some (slot_entry k a)) (at (order cmp) (listed cmp (k + 1) h) x)
-  listed_ahead k a h apart x =
+  listed_before k a h apart x =
       at_put_new (order cmp) (order_total total) (listed cmp (k + 1) h) (a.at, a.turn) _ x
       (none_at k a h apart (each_listed (k + 1) h (rest_apart (Some a) h apart)))
 
@@ -130,13 +130,13 @@ module _ {T V : Type 0} {cmp : T → T → Ordering} (total : IsTotalOrder cmp) 
   all_listed k (Some b ∷ h) apart zero a e =
       let same : b ≡ a = cc in
       let none : k ≡ k + 0 = omega arith in
-      ap (λ c. at (order cmp) (listed cmp k (Some b ∷ h)) (c.at, c.turn)) (sym same) ∙ listed_ahead k b h apart (b.at, b.turn)
+      ap (λ c. at (order cmp) (listed cmp k (Some b ∷ h)) (c.at, c.turn)) (sym same) ∙ listed_before k b h apart (b.at, b.turn)
       ∙ ap (λ r. cond (is_eq r) (Some (slot_entry k b)) (at (order cmp) (listed cmp (k + 1) h) (b.at, b.turn))) (tied_itself (order_total total) (b.at, b.turn))
       ∙ (λ i. Some (slot_entry (none i) (same i)))
   all_listed k (Some b ∷ h) apart (suc i) a e =
       let next : k + 1 + i ≡ k + suc i = omega arith in
       let other : b.turn ≢ a.turn = λ same. let no : 0 ≡ suc i = apart 0 (suc i) b a refl e same in absurd (omega arith) in
-      listed_ahead k b h apart (a.at, a.turn)
+      listed_before k b h apart (a.at, a.turn)
       ∙ ap (λ t. cond t (Some (slot_entry k b)) (at (order cmp) (listed cmp (k + 1) h) (a.at, a.turn))) (turns_apart cmp (b.at, b.turn) (a.at, a.turn) other)
       ∙ all_listed (k + 1) h (rest_apart (Some b) h apart) i a e ∙ ap (λ j. Some (slot_entry j a)) next
 

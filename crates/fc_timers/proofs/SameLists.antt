@@ -83,15 +83,15 @@ module _ {K V : Type 0} (cmp : K → K → Ordering) (total : IsTotalOrder cmp) 
     tails : (k : K) → at cmp s k ≡ at cmp t k
     tails k = go (cmp x.0 k) refl (ap (λ z. cmp z.0 k) (sym heads))
       where
-        past : (r : Ordering) → cmp x.0 k ≡ r → cmp y.0 k ≡ r → is_eq r ≡ false → at cmp s k ≡ at cmp t k
-        past r e d n =
+        after : (r : Ordering) → cmp x.0 k ≡ r → cmp y.0 k ≡ r → is_eq r ≡ false → at cmp s k ≡ at cmp t k
+        after r e d n =
             sym (ap (λ z. cond (is_eq z) (Some x) (at cmp s k)) e ∙ ap (λ z. cond z (Some x) (at cmp s k)) n) ∙ f k
             ∙ (ap (λ z. cond (is_eq z) (Some y) (at cmp t k)) d ∙ ap (λ z. cond z (Some y) (at cmp t k)) n)
 
         go : (r : Ordering) → cmp x.0 k ≡ r → cmp y.0 k ≡ cmp x.0 k → at cmp s k ≡ at cmp t k
-        go Less e d = past Less e (d ∙ e) refl
+        go Less e d = after Less e (d ∙ e) refl
         go Equal e d = nothing_below x s k a.0 e ∙ sym (nothing_below y t k b.0 (d ∙ e))
-        go Greater e d = past Greater e (d ∙ e) refl
+        go Greater e d = after Greater e (d ∙ e) refl
 
   pub same_list : (s t : List (K × V)) → IsAscending cmp s → IsAscending cmp t → ((k : K) → at cmp s k ≡ at cmp t k) → s ≡ t
   same_list [] [] a b f = refl

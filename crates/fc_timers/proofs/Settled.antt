@@ -151,8 +151,8 @@ module _ {T V : Type 0} {cmp : T → T → Ordering} where
 
       -- What a slot names is one of the timers.
       pub stands : (fuel k : ℕ) (f : First T) → length first ≤ k + fuel → get_or first k None ≡ Some f → own_first f.slot (get_or held f.slot None) ≡ Some f
-      stands zero k f past e = let none = get_or_past first k None (omega arith) in absurd cc
-      stands (suc fuel) k f past e =
+      stands zero k f after e = let none = get_or_past first k None (omega arith) in absurd cc
+      stands (suc fuel) k f after e =
           elim (either cmp _ _ f (sym (names k) ∙ e)) [
             | inl own ↦ subst (λ j. own_first j (get_or held j None) ≡ Some f) (sym (own_slot k _ f own)) own
             | inr below ↦

@@ -20,7 +20,7 @@ use Rattle.fc_timers.specs.Tournament.{own_first, IsSettledBut, IsGivenOut, IsFi
 use Rattle.fc_timers.proofs.Settled.{IsAtMost, stands, top_first}
 
 module _ {X Y : Type 0} (f : X → Option Y) where
-  -- What f gives of the item at a place, as a slice lends it, and nothing past the end.
+  -- What f gives of the item at a place, as a slice lends it, and nothing after the end.
   pub read_at : (xs : List X) (k : ℕ) (r : Option (Bor X)) (x : Bor X) → IsItemAt xs k r → r ≡ Some x → (k < length xs) × (get_or (map f xs) k None ≡ f x.now)
   read_at xs k None x lent e = absurd cc
   read_at xs k (Some y) x lent e =
@@ -160,10 +160,10 @@ not_later Less e = refl
 not_later Equal e = refl
 not_later Greater e = absurd cc
 
-not_behind : (r : Ordering) (b : Bool) → by_turn r b ≡ true → is_gt r ≡ false
-not_behind Less b e = refl
-not_behind Equal b e = refl
-not_behind Greater b e = absurd cc
+not_after : (r : Ordering) (b : Bool) → by_turn r b ≡ true → is_gt r ≡ false
+not_after Less b e = refl
+not_after Equal b e = refl
+not_after Greater b e = absurd cc
 
 module _ {T V : Type 0} {cmp : T → T → Ordering} (o : IsTotalOrder cmp) where
   -- What comes after what is not due is not due.
@@ -172,7 +172,7 @@ module _ {T V : Type 0} {cmp : T → T → Ordering} (o : IsTotalOrder cmp) wher
     where
       by_test : (t : Bool) → is_gt (cmp b.at now) ≡ t → is_gt (cmp b.at now) ≡ true
       by_test true e = e
-      by_test false e = let early = upto o a.at b.at now (not_behind _ _ first) e in absurd cc
+      by_test false e = let early = upto o a.at b.at now (not_after _ _ first) e in absurd cc
 
   module _ (q : Queue T V) (first : List (Option (First T))) (s : IsSettledBut cmp q.slots first 0) where
     unnamed : (k : ℕ) (h : Option (Armed T V)) → IsAtMost cmp None (own_first k h) → h ≡ None

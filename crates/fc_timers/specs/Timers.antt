@@ -43,7 +43,7 @@ module _ {T V : Type 0} where
     pub here : armed new timer ≡ now
     pub others : (other : Timer) → other ≢ timer → armed new other ≡ armed old other
 
-  -- Each timer of the queue has a turn that was given out, so that the next one is behind all, and no two have the same.
+  -- Each timer of the queue has a turn that was given out, so that the next one is after all, and no two have the same.
   pub record AreGivenOut (q : Queue T V) : Type 0 where
     pub turns : (timer : Timer) (a : Armed T V) → armed q timer ≡ Some a → a.turn < q.next_number
     pub distinct : (one other : Timer) (a b : Armed T V) → armed q one ≡ Some a → armed q other ≡ Some b → a.turn ≡ b.turn → one ≡ other

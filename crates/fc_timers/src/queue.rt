@@ -151,7 +151,7 @@ impl<T: Ord, V, A: Handle> TimerQueue<T, V, A> {
 }
 
 impl<T: Ord + Copy + Drop, V: Drop, A: Handle> TimerQueue<T, V, A> {
-    /// Puts a timer in, behind those of its time, and answers what it is found by. It takes memory only where the queue holds as many timers as
+    /// Puts a timer in, after those of its time, and answers what it is found by. It takes memory only where the queue holds as many timers as
     /// it ever held.
     ///
     /// # Errors
@@ -271,7 +271,7 @@ impl<T: Ord + Copy + Drop, V: Drop, A: Handle> TimerQueue<T, V, A> {
         Some((armed.at, armed.value))
     }
 
-    /// Gives a timer another time, behind those of that time, as if it were inserted anew, and answers the time that it had. It takes no memory.
+    /// Gives a timer another time, after those of that time, as if it were inserted anew, and answers the time that it had. It takes no memory.
     /// `None` where the timer is not in the queue, or 2^64 - 1 turns were given out; the queue then stays as it is.
     pub fn reschedule(&mut self, timer: Timer, at: T) -> Option<T>
         ensures answer { IfSome result (λ was. option_map (λ a. a.at) (armed self.old timer) ≡ Some was) }

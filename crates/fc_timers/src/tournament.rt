@@ -24,7 +24,7 @@ fn own_first<T: Ord + Copy, V>(slots: &[Slot<T, V>], at: usize) -> Option<First<
     }
 }
 
-// What a slot names, and none past the end.
+// What a slot names, and none after the end.
 fn first_at<T: Ord + Copy, V>(slots: &[Slot<T, V>], at: usize) -> Option<First<T>>
     ensures { result ≡ slice_index_or (firsts slots.now) at None }
 {

@@ -1,5 +1,7 @@
 pub mod JoinFacts
-pub mod Beyond
+pub mod After
 pub mod GraftedFacts
 pub mod UnderRoot
 pub mod Levels
+pub mod StableLaws
+pub mod MergedFacts

@@ -1,2 +1,3 @@
 pub mod Grafted
 pub mod Reused
+pub mod Rising

@@ -14,7 +14,7 @@ use fc_tree_search::first_last::{first_pair, last_pair};
 use std::mem;
 
 /// Moves all pairs of `theirs` into `ours`, and answers how many there are then. Of two equal keys the pair of `theirs` stays, and
-/// ours is dropped. Where either holds none nothing is asked for and nothing compared. Where all keys of `theirs` lie beyond ours, that
+/// ours is dropped. Where either holds none nothing is asked for and nothing compared. Where all keys of `theirs` lie after ours, that
 /// takes just one comparison, and a few nodes of each level from the shorter tree's root up. Else each key is compared at most once, and
 /// there are at least as many comparisons as the shorter tree has pairs, and the pairs are put into the leaves of both. No move is counted.
 ///
@@ -44,7 +44,7 @@ pub fn try_append<K: Ord + Drop, V: Drop, A: Handle>(
     ensures grown { count.old.comparisons ≤ count.new.comparisons }
     ensures counted { IfOk result (λ _. 0 < our_len → 0 < their_len → count.old.comparisons < count.new.comparisons) }
     ensures merged { IfOk result (λ _. ¬ IsAscending K.cmp (entries ours.old ++ entries theirs.old) → count.old.comparisons + min our_len their_len ≤ count.new.comparisons) }
-    ensures beyond { 0 < our_len → 0 < their_len → our_len + their_len ≤ usize.MAX → IsAscending K.cmp (entries ours.old ++ entries theirs.old) → count.new.comparisons ≡ count.old.comparisons + 1 }
+    ensures after { 0 < our_len → 0 < their_len → our_len + their_len ≤ usize.MAX → IsAscending K.cmp (entries ours.old ++ entries theirs.old) → count.new.comparisons ≡ count.old.comparisons + 1 }
     ensures moves { count.new.moves ≡ count.old.moves }
 {
     if their_len == 0 {
@@ -57,7 +57,7 @@ pub fn try_append<K: Ord + Drop, V: Drop, A: Handle>(
     let Some(len) = our_len.checked_add(their_len) else {
         return Err(TryReserveError::CapacityOverflow);
     };
-    if is_beyond(ours, theirs, count) {
+    if is_after(ours, theirs, count) {
         try_join(alloc, ours, theirs)?;
         return Ok(len);
     }
@@ -67,8 +67,8 @@ pub fn try_append<K: Ord + Drop, V: Drop, A: Handle>(
     Ok(len)
 }
 
-// Whether all keys of `theirs` lie beyond all of `ours`: the last of the one and the first of the other are compared.
-fn is_beyond<K: Ord, V, A: Handle>(
+// Whether all keys of `theirs` lie after all of `ours`: the last of the one and the first of the other are compared.
+fn is_after<K: Ord, V, A: Handle>(
     ours: &Option<Node<K, V, A>>,
     theirs: &Option<Node<K, V, A>>,
     count: &mut Count,
@@ -76,7 +76,7 @@ fn is_beyond<K: Ord, V, A: Handle>(
     requires sound { IsSoundMap ours.now × IsSoundMap theirs.now }
     requires order { IsAscending K.cmp (entries ours.now) × IsAscending K.cmp (entries theirs.now) }
     requires some { (0 < length (entries ours.now)) × (0 < length (entries theirs.now)) }
-    ensures beyond { IsTrue result → IsAscending K.cmp (entries ours.now ++ entries theirs.now) }
+    ensures after { IsTrue result → IsAscending K.cmp (entries ours.now ++ entries theirs.now) }
     ensures told { IsAscending K.cmp (entries ours.now ++ entries theirs.now) → IsTrue result }
     ensures comparisons { count.new.comparisons ≡ count.old.comparisons + 1 }
     ensures moves { count.new.moves ≡ count.old.moves }

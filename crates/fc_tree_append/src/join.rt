@@ -1,7 +1,7 @@
 //! Two trees made one where all pairs of one lie before those of the other: the shorter one is grafted on the taller one's border.
 ghost use Rattle.std.specs.Prelude.{◌≡◌, ℕ, suc, ◌+◌, ◌<◌, ◌≤◌, ◌∷◌, ◌++◌, length, None, IfOk, IfErr};
 ghost use Rattle.fc_base.specs.Sizes.{most_levels, most_height};
-ghost use Rattle.fc_tree_node.specs.Node.{pairs_of, IsBlankInner, IsLevelled, IsSoundRoot, IsTree};
+ghost use Rattle.fc_tree_node.specs.Node.{pairs_of, IsEmptyInner, IsLevelled, IsSoundRoot, IsTree};
 ghost use Rattle.fc_tree_node.specs.Measures.{height_of};
 ghost use Rattle.fc_tree_node.specs.Tree.{entries, IsSoundMap, IsSoundWithin};
 
@@ -96,10 +96,10 @@ fn join_under_root<K: Drop, V: Drop, A: Handle>(
     left: Node<K, V, A>,
     pair: (K, V),
     right: Node<K, V, A>,
-    blank: Node<K, V, A>,
+    empty: Node<K, V, A>,
 ) -> Option<Node<K, V, A>>
     requires levels { (h : ℕ) × IsLevelled h left × IsLevelled h right }
-    requires blank { IsBlankInner blank }
+    requires empty { IsEmptyInner empty }
     ensures pairs { entries result ≡ pairs_of left ++ pair ∷ pairs_of right }
     ensures levels { (h : ℕ) → IsLevelled h left → IsLevelled h right → IsSoundWithin (suc h) result }
 {
@@ -107,7 +107,7 @@ fn join_under_root<K: Drop, V: Drop, A: Handle>(
     let ours = left.len();
     let theirs = right.len();
     let mut root = left;
-    grow(&mut root, pair, right, blank, count);
+    grow(&mut root, pair, right, empty, count);
     if ours + theirs < CAPACITY {
         root.merge(0, count);
         return rebalance(root, Border::Right, count);

@@ -25,7 +25,7 @@ pub(crate) fn merge<K: Ord + Drop, V: Drop, A: Handle>(
     requires some { (0 < length (entries ours)) × (0 < length (entries theirs)) }
     requires sound { IsSoundMap ours × IsSoundMap theirs }
     requires order { IsAscending K.cmp (entries ours) × IsAscending K.cmp (entries theirs) }
-    requires blank { builder.pairs ≡ [] }
+    requires empty { builder.pairs ≡ [] }
     requires limit { length (entries ours) + length (entries theirs) ≤ builder.limit }
     requires room { min builder.limit (2 * most_children - 1) ≤ builder.room }
     ensures pairs { entries result.0 ≡ joined K.cmp (entries ours) (entries theirs) }

@@ -14,7 +14,7 @@ use Rattle.fc_tree_node.specs.Weave.{before_list}
 use Rattle.fc_tree_drain.specs.Opened.{before_back, closing}
 use Rattle.fc_tree_drain.proofs.Opening.{back_push, empty_back}
 use Rattle.fc_tree_build.specs.Spine.{IsOpenEnd, IsSpine, level_above}
-use Rattle.fc_tree_build.specs.Built.{IsBehindLast}
+use Rattle.fc_tree_build.specs.Built.{IsAfterLast}
 
 -- an answer that is less
 pub less_if : (o : Ordering) (b : Bool) → b ≡ is_lt o → IsTrue b → o ≡ Less
@@ -62,14 +62,14 @@ module _ {X : Type 0} where
       (c ++ p ∷ r.0, ap (λ zs. c ++ p ∷ zs) r.1 ∙ sym (append_assoc c (p ∷ r.0) _))
 
 module _ {K V : Type 0} where
-  -- a key behind the last pair of all is behind that of the last leaf
-  pub behind_leaf : (cmp : K → K → Ordering) (front own s : List (K × V)) (k : K) → front ++ own ≡ s → 0 < length own → IsBehindLast cmp s k
-      → IsBehindLast cmp own k
-  behind_leaf cmp front own s k e some b = let r = last_of_back front own b.0 b.1 some (e ∙ b.2) in (r.0, b.1, r.1, b.3)
+  -- a key after the last pair of all is after that of the last leaf
+  pub after_leaf : (cmp : K → K → Ordering) (front own s : List (K × V)) (k : K) → front ++ own ≡ s → 0 < length own → IsAfterLast cmp s k
+      → IsAfterLast cmp own k
+  after_leaf cmp front own s k e some b = let r = last_of_back front own b.0 b.1 some (e ∙ b.2) in (r.0, b.1, r.1, b.3)
 
-  pub behind_told : (cmp : K → K → Ordering) (front own : List (K × V)) (last : K × V) (k : K) → own ≡ front ++ last ∷ [] → IsBehindLast cmp own k
+  pub after_told : (cmp : K → K → Ordering) (front own : List (K × V)) (last : K × V) (k : K) → own ≡ front ++ last ∷ [] → IsAfterLast cmp own k
       → cmp last.0 k ≡ Less
-  behind_told cmp front own last k e b = ap (λ z. cmp z.0 k) (last_same front b.0 last b.1 (sym e ∙ b.2)) ∙ b.3
+  after_told cmp front own last k e b = ap (λ z. cmp z.0 k) (last_same front b.0 last b.1 (sym e ∙ b.2)) ∙ b.3
 
 module _ {K V Z : Type 0} where
   pub spine_at : (h : ℕ) (s : List (Node K V Z)) (i : ℕ) (b : Node K V Z) → IsSpine h s → i < length s → b ≡ slice_index_or s i b → (k : ℕ) × IsOpenEnd k b

@@ -4,7 +4,7 @@ use Rattle.std.proofs.Common.{append-nil, length-append, Option, Some, None, Res
 use Rattle.std.specs.Result.{IfErr}
 use Rattle.fc_base.specs.Sizes.{capacity, most_height}
 use Rattle.fc_tree_node.specs.declared.node.Node.{Node}
-use Rattle.fc_tree_node.specs.Node.{own_pairs, pairs_of, IsLeaf, IsBlankLeaf}
+use Rattle.fc_tree_node.specs.Node.{own_pairs, pairs_of, IsLeaf, IsEmptyLeaf}
 use Rattle.fc_tree_node.specs.Tree.{entries, IsSoundWithin, IsSoundMap}
 use Rattle.fc_tree_node.proofs.Pairs.{leaf_pairs}
 use Rattle.fc_tree_drain.specs.Opened.{before_back}
@@ -45,22 +45,22 @@ module _ {K V Z : Type 0} where
       → capacity - length (own_pairs leaf) ≡ r → capacity - length (own_pairs new) + 1 ≡ r
   put_room leaf new p r less e f = let l = ap length e ∙ length-append (own_pairs leaf) (p ∷ []) in omega arith
 
-  -- ---- a blank leaf in the place of a full one
+  -- ---- an empty leaf in the place of a full one
 
   pub grafted_grown : (s old : List (Node K V Z)) (n : ℕ) (leaf new : Node K V Z) (p : K × V) → IsGrown old (Some leaf) n → capacity ≤ length (own_pairs leaf)
-      → n < 2 ^ 64 - 1 - 2 * capacity → IsBlankLeaf new → before_back s ≡ before_back old ++ (pairs_of leaf ++ p ∷ []) → IsSpine 0 s × (length s ≤ most_height)
+      → n < 2 ^ 64 - 1 - 2 * capacity → IsEmptyLeaf new → before_back s ≡ before_back old ++ (pairs_of leaf ++ p ∷ []) → IsSpine 0 s × (length s ≤ most_height)
       → IsGrown s (Some new) (n + (capacity + 1))
-  grafted_grown s old n leaf new p g full low blank e levels =
+  grafted_grown s old n leaf new p g full low empty e levels =
       let own = ap length (leaf_pairs leaf g.0.1) in
       let l = ap length e ∙ length-append (before_back old) (pairs_of leaf ++ p ∷ []) in
       let m = length-append (pairs_of leaf) (p ∷ []) in
-      let none = ap length blank.0 in
-      ((omega arith, blank.1, levels.0, levels.1), omega arith, omega arith)
+      let none = ap length empty.0 in
+      ((omega arith, empty.1, levels.0, levels.1), omega arith, omega arith)
 
-  pub grafted_pairs : (s old : List (Node K V Z)) (leaf new : Node K V Z) (p : K × V) (zs : List (K × V)) → IsLeaf leaf → IsBlankLeaf new
+  pub grafted_pairs : (s old : List (Node K V Z)) (leaf new : Node K V Z) (p : K × V) (zs : List (K × V)) → IsLeaf leaf → IsEmptyLeaf new
       → before_back s ≡ before_back old ++ (pairs_of leaf ++ p ∷ []) → before_back old ++ own_pairs leaf ≡ zs → before_back s ++ own_pairs new ≡ zs ++ p ∷ []
-  grafted_pairs s old leaf new p zs l blank e f =
-      ap (λ ps. before_back s ++ ps) blank.0 ∙ append-nil (before_back s) ∙ e ∙ ap (λ ps. before_back old ++ (ps ++ p ∷ [])) (leaf_pairs leaf l)
+  grafted_pairs s old leaf new p zs l empty e f =
+      ap (λ ps. before_back s ++ ps) empty.0 ∙ append-nil (before_back s) ∙ e ∙ ap (λ ps. before_back old ++ (ps ++ p ∷ [])) (leaf_pairs leaf l)
       ∙ sym (append_assoc (before_back old) (own_pairs leaf) (p ∷ [])) ∙ ap (λ ps. ps ++ p ∷ []) f
 
   -- a full leaf

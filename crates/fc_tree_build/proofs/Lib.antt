@@ -4,3 +4,4 @@ pub mod StackSizes
 pub mod Builders
 pub mod Ends
 pub mod GrownFacts
+pub mod OrderedFacts

@@ -7,7 +7,7 @@ use Rattle.std.proofs.Math.Nat.{pow-le-pow_right}
 use Rattle.std.specs.List.{AllByRecursion}
 use Rattle.fc_base.specs.Sizes.{capacity, most_children, most_height, most_levels}
 use Rattle.fc_tree_node.specs.declared.node.Node.{Node}
-use Rattle.fc_tree_node.specs.Node.{own_pairs, children_of, pairs_of, items_or_none, IsLeaf, IsInner, IsSound, IsBlankInner}
+use Rattle.fc_tree_node.specs.Node.{own_pairs, children_of, pairs_of, items_or_none, IsLeaf, IsInner, IsSound, IsEmptyInner}
 use Rattle.fc_tree_node.specs.Bordered.{LastAfter, IsRightBordered}
 use Rattle.fc_tree_node.proofs.Lists.{all_both, all_front, all_back}
 use Rattle.fc_tree_drain.specs.Opened.{before_back_in, before_back}
@@ -74,22 +74,22 @@ module _ {K V Z : Type 0} where
   pub length_pushed : (s new : List (Node K V Z)) (b : Node K V Z) → new ≡ s ++ b ∷ [] → length new ≡ length s + 1
   length_pushed s new b e = ap length e ∙ length-append s (b ∷ [])
 
-  -- ---- a blank node as the spine's end
+  -- ---- an empty node as the spine's end
 
-  blank_children : (n : Node K V Z) → IsBlankInner n → children_of n ≡ []
-  blank_children n z = ap items_or_none z.1
+  empty_children : (n : Node K V Z) → IsEmptyInner n → children_of n ≡ []
+  empty_children n z = ap items_or_none z.1
 
-  pub blank_end : (h : ℕ) (n : Node K V Z) → IsBlankInner n → IsOpenEnd h n
-  blank_end h n z =
+  pub empty_end : (h : ℕ) (n : Node K V Z) → IsEmptyInner n → IsOpenEnd h n
+  empty_end h n z =
       let a = ap length z.0 in
-      let b = ap length (blank_children n z) in
-      (omega arith, λ leaf. cc (z.1, leaf), omega arith, subst (AllByRecursion (IsSound h)) (sym (blank_children n z)) tt)
+      let b = ap length (empty_children n z) in
+      (omega arith, λ leaf. cc (z.1, leaf), omega arith, subst (AllByRecursion (IsSound h)) (sym (empty_children n z)) tt)
 
-  pub blank_back : (s : List (Node K V Z)) (n : Node K V Z) → IsBlankInner n → before_back s ≡ before_back s ++ before_back_in n
-  blank_back s n z =
+  pub empty_at_back : (s : List (Node K V Z)) (n : Node K V Z) → IsEmptyInner n → before_back s ≡ before_back s ++ before_back_in n
+  empty_at_back s n z =
       let a = ap length z.0 in
-      let b = ap length (blank_children n z) in
-      empty_back n s 0 (omega arith, λ k. absurd (omega arith), blank_children n z) (omega arith)
+      let b = ap length (empty_children n z) in
+      empty_back n s 0 (omega arith, λ k. absurd (omega arith), empty_children n z) (omega arith)
 
   -- ---- a child at the end, and the pair that comes after it
 
@@ -155,12 +155,12 @@ module _ {K V Z : Type 0} where
             (last_after (IsRightBordered h) (IsSound h) (children_of n) c o.3 r),
       )
 
-  -- the pairs, where a closed node m goes up and a blank one takes its place
+  -- the pairs, where a closed node m goes up and an empty one takes its place
   pub carried_pairs : (old s up new : List (Node K V Z)) (b n m c : Node K V Z) (p : K × V) → before_back old ≡ before_back s ++ before_back_in n
-      → pairs_of m ≡ before_back_in n ++ pairs_of c → before_back up ≡ before_back s ++ (pairs_of m ++ p ∷ []) → IsBlankInner b → new ≡ up ++ b ∷ []
+      → pairs_of m ≡ before_back_in n ++ pairs_of c → before_back up ≡ before_back s ++ (pairs_of m ++ p ∷ []) → IsEmptyInner b → new ≡ up ++ b ∷ []
       → before_back new ≡ before_back old ++ (pairs_of c ++ p ∷ [])
   carried_pairs old s up new b n m c p e f g z i =
-      back_push up new b i ∙ sym (blank_back up b z) ∙ g
+      back_push up new b i ∙ sym (empty_at_back up b z) ∙ g
       ∙ ap (λ zs. before_back s ++ (zs ++ p ∷ [])) f ∙ ap (λ zs. before_back s ++ zs) (append_assoc (before_back_in n) (pairs_of c) (p ∷ []))
       ∙ sym (append_assoc (before_back s) (before_back_in n) (pairs_of c ++ p ∷ [])) ∙ ap (λ zs. zs ++ (pairs_of c ++ p ∷ [])) (sym e)
 
@@ -289,14 +289,14 @@ module _ {K V Z : Type 0} where
   used_here [] i j l k r n f = omega arith
   used_here (b ∷ s) i j l k r n f = let same = k (omega arith) in let none = r (omega arith) in omega arith
 
-  pub not_blank : (s : List (Node K V Z)) (n : Node K V Z) → (length s ≡ 0 → own_pairs n ≡ []) → capacity ≤ length (own_pairs n) → 0 < length s
-  not_blank [] n f h = absurd (let e = ap length (f refl) in omega arith)
-  not_blank (b ∷ s) n f h = omega arith
+  pub not_empty : (s : List (Node K V Z)) (n : Node K V Z) → (length s ≡ 0 → own_pairs n ≡ []) → capacity ≤ length (own_pairs n) → 0 < length s
+  not_empty [] n f h = absurd (let e = ap length (f refl) in omega arith)
+  not_empty (b ∷ s) n f h = omega arith
 
-  pub spare_taken : (old new : List (Node K V Z)) (b : Node K V Z) → old ≡ new ++ b ∷ [] → AllByRecursion (λ x. IsBlankInner x) old
-      → IsBlankInner b × AllByRecursion (λ x. IsBlankInner x) new
+  pub spare_taken : (old new : List (Node K V Z)) (b : Node K V Z) → old ≡ new ++ b ∷ [] → AllByRecursion (λ x. IsEmptyInner x) old
+      → IsEmptyInner b × AllByRecursion (λ x. IsEmptyInner x) new
   spare_taken old new b e a =
-      let P : Node K V Z → Type 0 = λ x. IsBlankInner x in
+      let P : Node K V Z → Type 0 = λ x. IsEmptyInner x in
       let f = subst (AllByRecursion P) e a in
       ((all_back P new (b ∷ []) f).0, all_front P new (b ∷ []) f)
 

@@ -5,7 +5,7 @@ use Rattle.std.specs.declared.cmp.Ordering.{Ordering}
 use Rattle.std.specs.declared.cmp.Ordering.TheVariants.{Less}
 use Rattle.fc_base.specs.Sizes.{capacity, most_children, most_height}
 use Rattle.fc_tree_node.specs.declared.node.Node.{Node}
-use Rattle.fc_tree_node.specs.Node.{own_pairs, IsLeaf, IsBlankLeaf, IsBlankInner}
+use Rattle.fc_tree_node.specs.Node.{own_pairs, IsLeaf, IsEmptyLeaf, IsEmptyInner}
 use Rattle.fc_tree_drain.specs.Opened.{before_back}
 use Rattle.fc_tree_build.specs.Spine.{IsSpine}
 use Rattle.fc_tree_build.specs.Spares.{IsEnough}
@@ -28,15 +28,15 @@ module _ {K V Z : Type 0} where
   last_pairs None = []
   last_pairs (Some leaf) = own_pairs leaf
 
-  -- For how many more pairs there is room behind the last leaf, in so many spare leaves: each next leaf takes a pair between it and the
+  -- For how many more pairs there is room after the last leaf, in so many spare leaves: each next leaf takes a pair between it and the
   -- one before, and as many as it holds.
-  abbrev pub room_behind : Option (Node K V Z) → ℕ → ℕ
-  room_behind None spares = 0
-  room_behind (Some leaf) spares = (capacity - length (own_pairs leaf)) + most_children * spares
+  abbrev pub room_after : Option (Node K V Z) → ℕ → ℕ
+  room_after None spares = 0
+  room_after (Some leaf) spares = (capacity - length (own_pairs leaf)) + most_children * spares
 
   -- The pairs of a builder, and its room.
   abbrev pub built : Inside K V Z → Built K V
-  built b = record { pairs = before_back b.spine ++ last_pairs b.last; room = min b.limit (room_behind b.last (length b.leaves.items)); limit = b.limit }
+  built b = record { pairs = before_back b.spine ++ last_pairs b.last; room = min b.limit (room_after b.last (length b.leaves.items)); limit = b.limit }
 
   -- For how many more pairs the last leaf has room, if there is one.
   abbrev pub last_room : Option (Node K V Z) → ℕ
@@ -58,8 +58,8 @@ module _ {K V Z : Type 0} where
 
 module _ {K V : Type 0} where
   -- The key is greater than that of the last pair.
-  abbrev pub IsBehindLast : (K → K → Ordering) → List (K × V) → K → Type 0
-  IsBehindLast cmp s k = (front : List (K × V)) × (last : K × V) × (s ≡ front ++ last ∷ []) × (cmp last.0 k ≡ Less)
+  abbrev pub IsAfterLast : (K → K → Ordering) → List (K × V) → K → Type 0
+  IsAfterLast cmp s k = (front : List (K × V)) × (last : K × V) × (s ≡ front ++ last ∷ []) × (cmp last.0 k ≡ Less)
 
 module _ {K V Z : Type 0} where
   -- The last leaf; with none there is no room and nothing else.
@@ -67,14 +67,14 @@ module _ {K V Z : Type 0} where
   IsLast None limit s = (limit ≡ 0) × (s ≡ [])
   IsLast (Some leaf) limit s = (length (own_pairs leaf) ≤ capacity) × IsLeaf leaf
 
-  -- How many leaves so many more pairs take behind those of the last one.
-  abbrev pub leaves_behind : Option (Node K V Z) → ℕ → ℕ
-  leaves_behind last limit = (length (last_pairs last) + limit) / most_children
+  -- How many leaves so many more pairs take after those of the last one.
+  abbrev pub leaves_after : Option (Node K V Z) → ℕ → ℕ
+  leaves_after last limit = (length (last_pairs last) + limit) / most_children
 
   -- The tree so far stands above the last leaf. There are just as many spare inner nodes as the limit takes, and as many leaves, unless
   -- there is room for two of them.
   abbrev pub IsBuilder : Inside K V Z → Type 0
   IsBuilder b = IsLast b.last b.limit b.spine × IsSpine 0 b.spine
-      × ((2 ≤ vec_capacity b.leaves) ⊎ (b.limit ≤ room_behind b.last (length b.leaves.items)))
-      × AllByRecursion (λ n. IsBlankLeaf n) b.leaves.items × AllByRecursion (λ n. IsBlankInner n) b.inner.items
-      × IsEnough (length b.inner.items) (leaves_behind b.last b.limit) b.spine
+      × ((2 ≤ vec_capacity b.leaves) ⊎ (b.limit ≤ room_after b.last (length b.leaves.items)))
+      × AllByRecursion (λ n. IsEmptyLeaf n) b.leaves.items × AllByRecursion (λ n. IsEmptyInner n) b.inner.items
+      × IsEnough (length b.inner.items) (leaves_after b.last b.limit) b.spine

@@ -10,7 +10,7 @@ abbrev pub leaves_for : ℕ → ℕ
 leaves_for zero = 0
 leaves_for (suc n) = suc n / most_children + 1
 
--- How many inner nodes so many subtrees take that are put one after another at the end of a tree, each with the pair behind it, where those
+-- How many inner nodes so many subtrees take that are put one after another at the end of a tree, each with the pair after it, where those
 -- nodes have at most d levels: right above the subtrees one for as many as a node has children, and one more; and those above these.
 abbrev pub inner_above : ℕ → ℕ → ℕ
 inner_above zero n = 0
@@ -37,7 +37,7 @@ module _ {K V Z : Type 0} where
   abbrev pub worth : List (Node K V Z) → ℕ
   worth s = digits_after 0 s
 
-  -- How many inner nodes one more subtree at the spine's end takes, where one above these nodes takes so many: a blank one for each of
+  -- How many inner nodes one more subtree at the spine's end takes, where one above these nodes takes so many: an empty one for each of
   -- the full nodes at the end, and one for a new root where there is none with room.
   abbrev pub needed_after : ℕ → List (Node K V Z) → ℕ
   needed_after a [] = a

@@ -1,7 +1,7 @@
 //! A tree made of pairs in order, with all of its memory taken before the first.
 ghost use Rattle.std.specs.Prelude.{◌≡◌, min, ◌+◌, ◌-◌, ◌*◌, ◌<◌, ◌≤◌, ◌⊎◌, [], ◌∷◌, ◌++◌, IfOk, IfErr, IsOk};
 ghost use Rattle.fc_base.specs.Sizes.{most_children};
-ghost use Rattle.fc_tree_node.specs.Node.{IsBlankLeaf};
+ghost use Rattle.fc_tree_node.specs.Node.{IsEmptyLeaf};
 ghost use Rattle.fc_tree_node.specs.Tree.{entries, IsSoundMap};
 ghost use Rattle.fc_tree_build.specs.Spares.{leaves_for};
 
@@ -112,7 +112,7 @@ impl<K: Drop, V: Drop, A: Handle> Builder<K, V, A> {
 
     /// Takes a leaf that holds nothing, for pairs to come. Where two wait already it is dropped.
     pub fn give_leaf(&mut self, leaf: Node<K, V, A>)
-        requires { IsBlankLeaf leaf }
+        requires { IsEmptyLeaf leaf }
         ensures pairs { self.new.pairs ≡ self.old.pairs }
         ensures limit { self.new.limit ≡ self.old.limit }
         ensures kept { self.old.room ≤ self.new.room }

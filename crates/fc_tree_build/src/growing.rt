@@ -2,10 +2,10 @@
 ghost use Rattle.std.specs.Prelude.{◌≡◌, ◌+◌, ◌<◌, ◌≤◌, ◌⊎◌, ◌↔◌, [], ◌∷◌, ◌++◌, length, IsTrue, IfOk, IfErr, IfSome, None};
 ghost use Rattle.fc_base.specs.Sizes.{capacity, most_height};
 ghost use Rattle.fc_tree_drain.specs.Opened.{before_back};
-ghost use Rattle.fc_tree_node.specs.Node.{own_pairs, pairs_of, IsLeaf, IsBlankLeaf, IsBlankInner, IsSound};
+ghost use Rattle.fc_tree_node.specs.Node.{own_pairs, pairs_of, IsLeaf, IsEmptyLeaf, IsEmptyInner, IsSound};
 ghost use Rattle.std.specs.List.{AllByRecursion};
 ghost use Rattle.fc_tree_node.specs.Tree.{entries, IsSoundMap};
-ghost use Rattle.fc_tree_build.specs.Built.{IsBehindLast};
+ghost use Rattle.fc_tree_build.specs.Built.{IsAfterLast};
 ghost use Rattle.fc_tree_build.specs.Spine.{IsLastPair, IsSpine};
 
 use crate::spares::try_inner_nodes;
@@ -69,17 +69,17 @@ impl<K: Ord + Drop, V: Drop, A: Handle> GrowingBuilder<K, V, A> {
     /// Puts the pair after the others where the last leaf has a pair and room for one more, and its last key is less; else the pair comes back.
     /// It takes no memory.
     #[inline(always)]
-    pub fn put_if_behind(&mut self, pair: (K, V)) -> Option<(K, V)>
+    pub fn put_if_after(&mut self, pair: (K, V)) -> Option<(K, V)>
         ensures put { result ≡ None → self.new.pairs ≡ self.old.pairs ++ pair ∷ [] }
         ensures room { result ≡ None → self.new.room + 1 ≡ self.old.room }
-        ensures behind { result ≡ None → IsBehindLast K.cmp self.old.pairs pair.0 }
-        ensures taken { 0 < self.old.room → self.old.room < capacity → IsBehindLast K.cmp self.old.pairs pair.0 → result ≡ None }
+        ensures after { result ≡ None → IsAfterLast K.cmp self.old.pairs pair.0 }
+        ensures taken { 0 < self.old.room → self.old.room < capacity → IsAfterLast K.cmp self.old.pairs pair.0 → result ≡ None }
         ensures back { IfSome result (λ back. (back ≡ pair) × (self.new ≡ self.old)) }
     {
         let Some(leaf) = &mut self.last else {
             return Some(pair);
         };
-        if 0 < leaf.len() && leaf.len() < CAPACITY && is_behind(leaf, &pair.0) {
+        if 0 < leaf.len() && leaf.len() < CAPACITY && is_after(leaf, &pair.0) {
             put_pair(leaf, pair);
             return None;
         }
@@ -102,7 +102,7 @@ impl<K: Drop, V: Drop, A: Handle> GrowingBuilder<K, V, A> {
     }
 
     /// Puts the pair after the others. It compares nothing and moves no other pair. At the first pair it makes a leaf; where the last leaf
-    /// is full, a leaf, a blank node for each full one of the right edge that is closed, and a new root where all are full.
+    /// is full, a leaf, an empty node for each full one of the right edge that is closed, and a new root where all are full.
     ///
     /// # Errors
     /// The pair and `AllocError` if one of them is refused: all are made before the pair is put. The tree is then as before. So is a leaf
@@ -194,9 +194,9 @@ impl<K: Drop, V: Drop, A: Handle> GrowingBuilder<K, V, A> {
 }
 
 // Whether the key is greater than the leaf's last one.
-fn is_behind<K: Ord, V, A: Handle>(leaf: &Node<K, V, A>, key: &K) -> bool
+fn is_after<K: Ord, V, A: Handle>(leaf: &Node<K, V, A>, key: &K) -> bool
     requires { 0 < length (own_pairs leaf.now) }
-    ensures { IsTrue result ↔ IsBehindLast K.cmp (own_pairs leaf.now) key.now }
+    ensures { IsTrue result ↔ IsAfterLast K.cmp (own_pairs leaf.now) key.now }
 {
     leaf.pair(leaf.len() - 1).0.cmp(key).is_lt()
 }
@@ -219,7 +219,7 @@ fn first_leaf<K: Drop, V: Drop, A: Handle>(
     }
 }
 
-// Puts the full last leaf and the pair after it at the spine's end, and a blank leaf in its place. Where the spine's last node has room,
+// Puts the full last leaf and the pair after it at the spine's end, and an empty leaf in its place. Where the spine's last node has room,
 // that is the one node that is made.
 fn graft_full<K: Drop, V: Drop, A: Handle>(
     alloc: A,
@@ -229,7 +229,7 @@ fn graft_full<K: Drop, V: Drop, A: Handle>(
 ) -> Result<(), ((K, V), TryReserveError)>
     requires levels { IsSpine 0 spine.old × IsSound 0 last.old }
     requires low { length spine.old ≤ most_height }
-    ensures blank { IfOk result (λ _. IsBlankLeaf last.new) }
+    ensures empty { IfOk result (λ _. IsEmptyLeaf last.new) }
     ensures pairs { IfOk result (λ _. before_back spine.new ≡ before_back spine.old ++ (pairs_of last.old ++ pair ∷ [])) }
     ensures levels { IfOk result (λ _. IsSpine 0 spine.new × (length spine.new ≤ most_height)) }
     ensures unchanged { IfErr result (λ e. (spine.new ≡ spine.old) × (last.new ≡ last.old) × (e.0 ≡ pair)) }
@@ -239,8 +239,8 @@ fn graft_full<K: Drop, V: Drop, A: Handle>(
         return graft_above(alloc, spine, last, pair);
     }
     match Node::try_leaf(alloc) {
-        Ok(blank) => {
-            let leaf = mem::replace(last, blank);
+        Ok(empty) => {
+            let leaf = mem::replace(last, empty);
             put_in_room(spine, leaf, pair);
             Ok(())
         }
@@ -258,15 +258,15 @@ fn graft_above<K: Drop, V: Drop, A: Handle>(
 ) -> Result<(), ((K, V), TryReserveError)>
     requires levels { IsSpine 0 spine.old × IsSound 0 last.old }
     requires low { length spine.old ≤ most_height }
-    ensures blank { IfOk result (λ _. IsBlankLeaf last.new) }
+    ensures empty { IfOk result (λ _. IsEmptyLeaf last.new) }
     ensures pairs { IfOk result (λ _. before_back spine.new ≡ before_back spine.old ++ (pairs_of last.old ++ pair ∷ [])) }
     ensures levels { IfOk result (λ _. IsSpine 0 spine.new × (length spine.new ≤ most_height)) }
     ensures unchanged { IfErr result (λ e. (spine.new ≡ spine.old) × (last.new ≡ last.old) × (e.0 ≡ pair)) }
     ensures error { IfErr result (λ e. e.1 ≡ TryReserveError.AllocError) }
 {
     match try_leaf_and_inner(alloc, needed(spine)) {
-        Ok((blank, mut spares)) => {
-            let leaf = mem::replace(last, blank);
+        Ok((empty, mut spares)) => {
+            let leaf = mem::replace(last, empty);
             attach(spine, leaf, pair, &mut spares);
             Ok(())
         }
@@ -280,8 +280,8 @@ fn try_leaf_and_inner<K: Drop, V: Drop, A: Handle>(
     alloc: A,
     inner: usize,
 ) -> Result<(Node<K, V, A>, Vec<Node<K, V, A>, A>), TryReserveError>
-    ensures leaf { IfOk result (λ nodes. IsBlankLeaf nodes.0) }
-    ensures inner { IfOk result (λ nodes. (length nodes.1.items ≡ inner) × AllByRecursion (λ b. IsBlankInner b) nodes.1.items × (inner ≤ most_height)) }
+    ensures leaf { IfOk result (λ nodes. IsEmptyLeaf nodes.0) }
+    ensures inner { IfOk result (λ nodes. (length nodes.1.items ≡ inner) × AllByRecursion (λ b. IsEmptyInner b) nodes.1.items × (inner ≤ most_height)) }
     ensures error { IfErr result (λ e. e ≡ TryReserveError.AllocError) }
 {
     if inner >= MAX_STEPS {

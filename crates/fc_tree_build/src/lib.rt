@@ -3,5 +3,6 @@
 
 pub mod builder;
 pub mod growing;
+pub mod ordered;
 pub mod spares;
 pub mod spine;

@@ -2,7 +2,7 @@
 ghost use Rattle.std.specs.Prelude.{◌≡◌, ℕ, ◌^◌, ◌<◌, ◌≤◌, [], ◌∷◌, ◌++◌, length, IfOk, IfErr, IsOk, vec_capacity};
 ghost use Rattle.std.specs.List.{AllByRecursion};
 ghost use Rattle.fc_base.specs.Sizes.{most_children};
-ghost use Rattle.fc_tree_node.specs.Node.{IsBlankLeaf, IsBlankInner};
+ghost use Rattle.fc_tree_node.specs.Node.{IsEmptyLeaf, IsEmptyInner};
 ghost use Rattle.fc_tree_build.specs.Spares.{leaves_for, inner_above, inner_for};
 
 use fc_base::{Handle, TryReserveError};
@@ -16,7 +16,7 @@ pub(crate) fn try_leaves<K: Drop, V: Drop, A: Handle>(
     alloc: A,
     count: usize,
 ) -> Result<Vec<Node<K, V, A>, A>, TryReserveError>
-    ensures ok { IfOk result (λ v. (length v.items ≡ count) × AllByRecursion (λ b. IsBlankLeaf b) v.items) }
+    ensures ok { IfOk result (λ v. (length v.items ≡ count) × AllByRecursion (λ b. IsEmptyLeaf b) v.items) }
     ensures capacity { IfOk result (λ v. count ≤ vec_capacity v) }
     ensures error { IfErr result (λ e. e ≡ TryReserveError.AllocError) }
     ensures none { count ≡ 0 → IsOk result }
@@ -25,7 +25,7 @@ pub(crate) fn try_leaves<K: Drop, V: Drop, A: Handle>(
     for _i in 0..count {
         leaves.push(Node::try_leaf(alloc)?)?;
     }
-    // They are used from the last on, and an allocator often puts what it makes behind one another.
+    // They are used from the last on, and an allocator often puts what it makes one after another.
     leaves.reverse();
     Ok(leaves)
 }
@@ -38,7 +38,7 @@ pub(crate) fn try_inner_nodes<K: Drop, V: Drop, A: Handle>(
     alloc: A,
     count: usize,
 ) -> Result<Vec<Node<K, V, A>, A>, TryReserveError>
-    ensures ok { IfOk result (λ v. (length v.items ≡ count) × AllByRecursion (λ b. IsBlankInner b) v.items) }
+    ensures ok { IfOk result (λ v. (length v.items ≡ count) × AllByRecursion (λ b. IsEmptyInner b) v.items) }
     ensures error { IfErr result (λ e. e ≡ TryReserveError.AllocError) }
     ensures none { count ≡ 0 → IsOk result }
 {
@@ -89,7 +89,7 @@ pub(crate) fn inner_count(n: usize) -> usize
     nodes_above(n / (CAPACITY + 1))
 }
 
-// How many inner nodes so many subtrees take that are put one after another at the end of a tree, each with the pair behind it.
+// How many inner nodes so many subtrees take that are put one after another at the end of a tree, each with the pair after it.
 fn nodes_above(subtrees: usize) -> usize
     ensures value { (d : ℕ) → subtrees < most_children ^ d → result ≡ inner_above d subtrees }
     ensures few { result ≤ subtrees }

@@ -2,7 +2,7 @@
 ghost use Rattle.std.specs.Prelude.{◌≡◌, ℕ, suc, ◌+◌, ◌-◌, ◌*◌, ◌<◌, ◌≤◌, ◌↔◌, [], ◌∷◌, ◌++◌, length, IsTrue};
 ghost use Rattle.std.specs.List.{AllByRecursion};
 ghost use Rattle.fc_base.specs.Sizes.{capacity, most_children, most_height, most_levels};
-ghost use Rattle.fc_tree_node.specs.Node.{own_pairs, children_of, pairs_of, IsLeaf, IsSound, IsBlankInner};
+ghost use Rattle.fc_tree_node.specs.Node.{own_pairs, children_of, pairs_of, IsLeaf, IsSound, IsEmptyInner};
 ghost use Rattle.fc_tree_node.specs.Bordered.{IsRightBordered};
 ghost use Rattle.fc_tree_drain.specs.Opened.{before_back_in, before_back};
 ghost use Rattle.fc_tree_build.specs.Spine.{IsLastPair, IsOpenEnd, IsSpine, level_above};
@@ -19,7 +19,7 @@ use std::alloc::Global;
 pub type Spine<K, V, A: Handle = Global> = Stack<Node<K, V, A>>;
 
 /// Puts a subtree at the spine's end, and the pair that comes after it: both go into the lowest node with room. The full nodes
-/// below that one are closed, and blank ones take their places; where all are full there is a new root.
+/// below that one are closed, and empty ones take their places; where all are full there is a new root.
 pub fn attach<K: Drop, V: Drop, A: Handle>(
     spine: &mut Spine<K, V, A>,
     subtree: Node<K, V, A>,
@@ -27,12 +27,12 @@ pub fn attach<K: Drop, V: Drop, A: Handle>(
     spares: &mut Vec<Node<K, V, A>, A>,
 )
     requires levels { (h : ℕ) × IsSpine h spine.old × IsSound h subtree }
-    requires blank { AllByRecursion (λ b. IsBlankInner b) spares.old.items }
+    requires empty { AllByRecursion (λ b. IsEmptyInner b) spares.old.items }
     requires enough { needed spine.old ≤ length spares.old.items }
     requires low { (d : ℕ) × (d ≤ most_levels) × (length spine.old ≤ d) × (needed spine.old ≤ d) }
     ensures pairs { before_back spine.new ≡ before_back spine.old ++ (pairs_of subtree ++ pair ∷ []) }
     ensures levels { (h : ℕ) → IsSpine h spine.old → IsSound h subtree → IsSpine h spine.new }
-    ensures blank { AllByRecursion (λ b. IsBlankInner b) spares.new.items }
+    ensures empty { AllByRecursion (λ b. IsEmptyInner b) spares.new.items }
     ensures worth { worth spine.new ≡ worth spine.old + 1 }
     ensures left { capacity * (length spares.new.items + length spine.new) + own_count spine.old + 1 ≡ capacity * (length spares.old.items + length spine.old) + own_count spine.new }
     ensures used { length spares.old.items ≡ length spares.new.items + needed spine.old }
@@ -123,16 +123,16 @@ pub(crate) fn last_of<K, V, A: Handle>(spine: &Spine<K, V, A>) -> Option<&(K, V)
     last
 }
 
-// Takes the spine's last node out, or a blank one where it has none.
+// Takes the spine's last node out, or an empty one where it has none.
 fn open_end<K: Drop, V: Drop, A: Handle>(
     spine: &mut Spine<K, V, A>,
     spares: &mut Vec<Node<K, V, A>, A>,
 ) -> Node<K, V, A>
-    requires blank { AllByRecursion (λ b. IsBlankInner b) spares.old.items }
+    requires empty { AllByRecursion (λ b. IsEmptyInner b) spares.old.items }
     requires some { 0 < length spine.old + length spares.old.items }
     ensures pairs { before_back spine.old ≡ before_back spine.new ++ before_back_in result }
     ensures levels { (h : ℕ) → IsSpine h spine.old → IsOpenEnd h result × IsSpine (suc h) spine.new }
-    ensures blank { AllByRecursion (λ b. IsBlankInner b) spares.new.items }
+    ensures empty { AllByRecursion (λ b. IsEmptyInner b) spares.new.items }
     ensures worth { worth spine.old ≡ most_children * worth spine.new + length (own_pairs result) }
     ensures count { own_count spine.old ≡ own_count spine.new + length (own_pairs result) }
     ensures nodes { length spares.old.items + length spine.old ≡ length spares.new.items + length spine.new + 1 }

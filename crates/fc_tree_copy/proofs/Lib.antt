@@ -1,1 +1,3 @@
 pub mod CopyFacts
+pub mod TreeFacts
+pub mod CloneFacts

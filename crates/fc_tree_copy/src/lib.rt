@@ -1,4 +1,6 @@
 //! Copies of trees.
 #![tactic(auto)]
 
+pub mod clones;
 pub mod copy;
+pub mod tree;

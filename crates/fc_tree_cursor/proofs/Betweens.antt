@@ -28,7 +28,7 @@ module _ {K V Z : Type 0} (m : Map K V Z) (sound : IsSoundMap m) where
           absurd (omega (arith, some, empty))
 
   module _ (front back : List ℕ) (ends : AreEndsIn m front back) (some : 0 < length (between m front back)) where
-    -- The front goes on past a pair.
+    -- The front goes on over a pair.
     pub next_between : (mid : List ℕ) (x : K × V) → IsGapIn m mid → length (before_gap_in m mid) ≡ length (before_gap_in m front) + 1
         → slice_get (entries m) (length (before_gap_in m front)) ≡ Some x → AreEndsIn m mid back × (between m front back ≡ x ∷ between m mid back)
     next_between mid x g step at =
@@ -39,7 +39,7 @@ module _ {K V Z : Type 0} (m : Map K V Z) (sound : IsSoundMap m) where
               ∙ ap (λ k. x ∷ slice_range (entries m) k (length (before_gap_in m back))) (sym step),
         )
 
-    -- The back goes back past a pair.
+    -- The back goes back over a pair.
     pub previous_between : (mid : List ℕ) (x : K × V) → IsGapIn m mid → length (before_gap_in m mid) + 1 ≡ length (before_gap_in m back)
         → slice_get (entries m) (length (before_gap_in m mid)) ≡ Some x → AreEndsIn m front mid × (between m front back ≡ between m front mid ++ x ∷ [])
     previous_between mid x g step at =

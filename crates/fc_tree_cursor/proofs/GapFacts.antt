@@ -313,11 +313,11 @@ module _ {K V Z : Type 0} where
   zeros_gap zero n l = ((omega arith, tt), refl)
   zeros_gap (suc h) n l = let r = zeros_gap h (child_at n 0) (child_below h n 0 l (omega arith)).1 in ((omega arith, r.0), r.1)
 
-  pub record IsBehind (place path : List ℕ) (n : Node K V Z) : Type 0 where
+  pub record IsAfter (place path : List ℕ) (n : Node K V Z) : Type 0 where
     pub way : IsPath path n
     pub count : length (before_gap path n) ≡ length (before_pair place n) + 1
 
-  zeros_after : (k h i : ℕ) (n : Node K V Z) → IsLevelled h n → k ≡ h → i < length (own_pairs n) → IsBehind (i ∷ []) (suc i ∷ zeros k) n
+  zeros_after : (k h i : ℕ) (n : Node K V Z) → IsLevelled h n → k ≡ h → i < length (own_pairs n) → IsAfter (i ∷ []) (suc i ∷ zeros k) n
   zeros_after zero h i n l e p =
       let x = (item_there (own_pairs n) i p).0 in
       let a = ap length (before_child_pair h n i x l p) ∙ length-append (before_own n i) _ in
@@ -334,7 +334,7 @@ module _ {K V Z : Type 0} where
       record { way = (omega arith, z.0); count = omega (arith, a, b, d) }
 
   pub pair_after_gap : (gap : List ℕ) (last k h : ℕ) (n : Node K V Z) → IsLevelled h n → length gap ≡ h + 1 → IsPath gap n → k + last + 1 ≡ length gap
-      → IsPlace (take (suc last) gap) n → IsBehind (take (suc last) gap) (take last gap ++ (get_or gap last 0 + 1) ∷ zeros k) n
+      → IsPlace (take (suc last) gap) n → IsAfter (take (suc last) gap) (take last gap ++ (get_or gap last 0 + 1) ∷ zeros k) n
   pair_after_gap [] last k h n l e w c p = absurd (omega arith)
   pair_after_gap (i ∷ rest) zero k h n l e w c p = rw (add-one i) (zeros_after k h i n l (omega arith) p)
   pair_after_gap (i ∷ []) (suc last) k h n l e w c p = absurd (omega arith)

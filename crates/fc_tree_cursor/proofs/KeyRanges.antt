@@ -11,7 +11,7 @@ use Rattle.std.proofs.lemmas.List.Elements.{filter_agree}
 use Rattle.fc_base.specs.Ranges.{starts, stops, within}
 
 module _ {K : Type 0} (cmp : K → K → Ordering) (total : IsTotalOrder cmp) where
-  -- Where the end lies in front of the start, no key lies between them, whether the end is in the range or not.
+  -- Where the end lies before the start, no key lies between them, whether the end is in the range or not.
   pub empty_end : (s e k : K) → is_le (cmp s e) ≡ false
       → (starts cmp (Included s) k && stops cmp (Excluded e) k) ≡ (starts cmp (Included s) k && stops cmp (Included e) k)
   empty_end s e k h = go (cmp k e) refl
@@ -29,7 +29,7 @@ module _ {K : Type 0} (cmp : K → K → Ordering) (total : IsTotalOrder cmp) wh
       go Greater r = refl
       go Equal r = rw (front r) refl
 
-  -- What two ends hold of the same keys behind a start.
+  -- What two ends hold of the same keys after a start.
   pub within_end : {V : Type 0} (lo hi other : Bound K) (xs : List (K × V))
       → ((k : K) → (starts cmp lo k && stops cmp hi k) ≡ (starts cmp lo k && stops cmp other k))
       → within cmp lo hi xs ≡ within cmp lo other xs

@@ -54,12 +54,12 @@ on_last (i ∷ j ∷ []) (suc last) k e = on_last (j ∷ []) last k (omega arith
 on_last (i ∷ j ∷ l ∷ gap) (suc last) k e = on_last (j ∷ l ∷ gap) last k (omega arith)
 
 -- the last step of a path set to another one
-pub set_last : (gap : List ℕ) (last k : ℕ) → last + 1 ≡ length gap → slice_set gap last (get_or gap last 0 + k) ≡ advanced gap k
-set_last [] last k e = refl
-set_last (i ∷ []) zero k e = refl
-set_last (i ∷ []) (suc last) k e = absurd (omega arith)
-set_last (i ∷ j ∷ gap) zero k e = absurd (omega arith)
-set_last (i ∷ j ∷ gap) (suc last) k e = ap (λ p. i ∷ p) (set_last (j ∷ gap) last k (omega arith))
+pub last_leaf_edge_at : (gap : List ℕ) (last k : ℕ) → last + 1 ≡ length gap → slice_set gap last (get_or gap last 0 + k) ≡ advanced gap k
+last_leaf_edge_at [] last k e = refl
+last_leaf_edge_at (i ∷ []) zero k e = refl
+last_leaf_edge_at (i ∷ []) (suc last) k e = absurd (omega arith)
+last_leaf_edge_at (i ∷ j ∷ gap) zero k e = absurd (omega arith)
+last_leaf_edge_at (i ∷ j ∷ gap) (suc last) k e = ap (λ p. i ∷ p) (last_leaf_edge_at (j ∷ gap) last k (omega arith))
 
 pub set_back : (gap : List ℕ) (last : ℕ) → last + 1 ≡ length gap → 0 < get_or gap last 0 → advanced (slice_set gap last (get_or gap last 0 - 1)) 1 ≡ gap
 set_back [] last e k = refl
@@ -73,26 +73,26 @@ set_back (i ∷ j ∷ l ∷ gap) (suc (suc last)) e k = ap (λ p. i ∷ p) (set_
 
 module _ {K V Z : Type 0} where
   -- so many pairs of the leaf lie after a gap
-  pub record AreAllBehind (gap : List ℕ) (n : Node K V Z) (run : ℕ) : Type 0 where
+  pub record AreAllAfter (gap : List ℕ) (n : Node K V Z) (run : ℕ) : Type 0 where
     pub there : IsPath (advanced gap run) n
     pub all : (k : ℕ) → IsPath (advanced gap k) n → k ≤ run
 
-  after_at_leaf : (i : ℕ) (n : Node K V Z) → i ≤ length (own_pairs n) → AreAllBehind (i ∷ []) n (length (own_pairs n) - i)
+  after_at_leaf : (i : ℕ) (n : Node K V Z) → i ≤ length (own_pairs n) → AreAllAfter (i ∷ []) n (length (own_pairs n) - i)
   after_at_leaf i n le = record { there = (omega arith, tt); all = λ k w. omega arith }
 
-  after_below : (i : ℕ) (rest : List ℕ) (n : Node K V Z) (run : ℕ) → 0 < length rest → i ≤ length (own_pairs n) → AreAllBehind rest (child_at n i) run
-      → AreAllBehind (i ∷ rest) n run
+  after_below : (i : ℕ) (rest : List ℕ) (n : Node K V Z) (run : ℕ) → 0 < length rest → i ≤ length (own_pairs n) → AreAllAfter rest (child_at n i) run
+      → AreAllAfter (i ∷ rest) n run
   after_below i [] n run some le x = absurd (omega arith)
   after_below i (j ∷ rest) n run some le x = record { there = (le, x.there); all = λ k w. x.all k w.1 }
 
   -- the same by the steps of a path
-  pub after_leaf : (gap : List ℕ) (n : Node K V Z) → gap ≡ get_or gap 0 0 ∷ [] → IsPath gap n → AreAllBehind gap n (length (own_pairs n) - get_or gap 0 0)
-  after_leaf gap n e w = subst (λ g. AreAllBehind g n (length (own_pairs n) - get_or gap 0 0)) (sym e)
+  pub after_leaf : (gap : List ℕ) (n : Node K V Z) → gap ≡ get_or gap 0 0 ∷ [] → IsPath gap n → AreAllAfter gap n (length (own_pairs n) - get_or gap 0 0)
+  after_leaf gap n e w = subst (λ g. AreAllAfter g n (length (own_pairs n) - get_or gap 0 0)) (sym e)
       (after_at_leaf (get_or gap 0 0) n (subst (λ g. IsPath g n) e w).0)
 
   pub after_own_child : (gap : List ℕ) (n : Node K V Z) (run : ℕ) → 2 ≤ length gap → (s : IsStep gap n)
-      → AreAllBehind (slice_range gap 1 (length gap)) (child_at n (get_or gap 0 0)) run → AreAllBehind gap n run
-  after_own_child gap n run more s x = subst (λ g. AreAllBehind g n run) (sym s.path_is) (after_below _ _ n run (omega arith) s.le x)
+      → AreAllAfter (slice_range gap 1 (length gap)) (child_at n (get_or gap 0 0)) run → AreAllAfter gap n run
+  after_own_child gap n run more s x = subst (λ g. AreAllAfter g n run) (sym s.path_is) (after_below _ _ n run (omega arith) s.le x)
 
   -- a gap of a leaf with a pair of the leaf after it, and the gap after that pair
   pub record IsNear (m : Map K V Z) (gap next : List ℕ) : Type 0 where
@@ -217,17 +217,17 @@ module _ {K V Z : Type 0} where
   run_above (suc (suc way)) (j ∷ []) i rest n k h w = absurd (omega arith)
   run_above (suc (suc way)) (j ∷ l ∷ gap) i rest n k h w = run_above (suc way) (l ∷ gap) i rest (child_at n j) k (omega (arith, h)) w.1
 
-  -- past a pair of a node on the way
-  pub record IsPast (gap new : List ℕ) (root : Node K V Z) (way place run : ℕ) : Type 0 where
+  -- over a pair of a node on the way
+  pub record IsNextEdge (gap new : List ℕ) (root : Node K V Z) (way place run : ℕ) : Type 0 where
     pub place_is : IsPlace (take way gap ++ place ∷ []) root
     pub before : length (before_pair (take way gap ++ place ∷ []) root) ≡ length (before_gap gap root)
     pub gap_is : new ≡ take way gap ++ (place + 1) ∷ zeros (length gap - suc way)
     pub run_is : IsPath (advanced new run) root
     pub run_all : (k : ℕ) → IsPath (advanced new k) root → k ≤ run
 
-  pub past : (gap mid new : List ℕ) (root n : Node K V Z) (way place run : ℕ) → IsPath gap root → IsHolder gap root way n → place ≡ get_or gap way 0
-      → mid ≡ slice_set gap way (place + 1) → IsDown mid new n way run → IsPast gap new root way place run
-  past gap mid new root n way place run p h own is d =
+  pub next_edge : (gap mid new : List ℕ) (root n : Node K V Z) (way place run : ℕ) → IsPath gap root → IsHolder gap root way n → place ≡ get_or gap way 0
+      → mid ≡ slice_set gap way (place + 1) → IsDown mid new n way run → IsNextEdge gap new root way place run
+  next_edge gap mid new root n way place run p h own is d =
       let long = ap length is ∙ length_set gap way (place + 1) in
       let m = length gap - suc way in
       let here : take (suc way) gap ≡ take way gap ++ place ∷ [] = take_item gap way 0 h.0 ∙ ap (λ i. take way gap ++ i ∷ []) (sym own) in

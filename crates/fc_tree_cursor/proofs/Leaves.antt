@@ -170,14 +170,14 @@ module _ {K V Z : Type 0} where
       below zero j = refl
       below (suc h) j = refl
 
-  -- The front goes on to another gap of its leaf, not beyond the back.
+  -- The front goes on to another gap of its leaf, not after the back.
   pub record FrontTaken (m : Map K V Z) (front back : List ℕ) (leaf : Node K V Z) (last end : ℕ) : Type 0 where
     pub order : get_or front last 0 ≤ end
     pub fits : end ≤ length (own_pairs leaf)
     pub ends : AreEndsIn m (slice_set front last end) back
     pub run : between m front back ≡ slice_range (own_pairs leaf) (get_or front last 0) end ++ between m (slice_set front last end) back
 
-  -- The back goes back to another gap of its leaf, not beyond the front.
+  -- The back goes back to another gap of its leaf, not after the front.
   pub record BackTaken (m : Map K V Z) (front back : List ℕ) (leaf : Node K V Z) (last start : ℕ) : Type 0 where
     pub order : start ≤ get_or back last 0
     pub fits : get_or back last 0 ≤ length (own_pairs leaf)

@@ -10,3 +10,5 @@ pub mod Ways
 pub mod Outer
 pub mod Sought
 pub mod LeafFacts
+pub mod PathEnds
+pub mod Places

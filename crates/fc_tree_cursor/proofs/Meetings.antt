@@ -58,7 +58,7 @@ module _ {K V Z : Type 0} where
       let r = ap length (gap_pairs (j ∷ path) h c (child_below h n i l k).1 (omega arith) p) ∙ length-append (before_gap (j ∷ path) c) _ in
       omega (arith, r)
 
-  -- A path with an earlier first step has fewer pairs ahead.
+  -- A path with an earlier first step has fewer pairs before it.
   pub earlier : (h : ℕ) (n : Node K V Z) (i j : ℕ) (p q : List ℕ) → IsLevelled h n → i < j → j ≤ length (own_pairs n) → IsPath p (child_at n i) → length p ≡ h
       → length (before_gap (i ∷ p) n) < length (before_gap (j ∷ q) n)
   earlier h n i j p q l lt le w e =
@@ -68,7 +68,7 @@ module _ {K V Z : Type 0} where
       let b = before_inside p h n i l (omega arith) w e in
       omega (arith, g, b, length-append (before_child n i) (before_gap p (child_at n i)), length-append (before_child n j) (before_gap q (child_at n j)))
 
-  -- So with as many pairs ahead the first steps are the same.
+  -- So with as many pairs before them the first steps are the same.
   first_step : (h : ℕ) (n : Node K V Z) (i j : ℕ) (p q : List ℕ) → IsLevelled h n → IsPath (i ∷ p) n → IsPath (j ∷ q) n → length p ≡ h → length q ≡ h
       → length (before_gap (i ∷ p) n) ≡ length (before_gap (j ∷ q) n) → i ≡ j
   first_step h n i j p q l v w e f g = order (cases_lt i j) (cases_lt j i)

@@ -1,4 +1,4 @@
--- The outermost nodes of a level: no pair of the tree is beyond theirs.
+-- The outermost nodes of a level: no pair of the tree lies outside theirs.
 use Rattle.std.proofs.Common.{◌≡◌, ℕ, zero, suc, ◌<◌, ◌≤◌, length, ap, ◌∙◌, arith, ◌⊎◌, inl, inr, length-append}
 use Rattle.std.specs.Prelude.{◌↔◌}
 use Rattle.std.proofs.lemmas.Bool.{cases_lt}
@@ -11,14 +11,14 @@ use Rattle.fc_tree_cursor.proofs.Leaves.{leaf_before_child}
 
 module _ {K V Z : Type 0} (n : Node K V Z) where
   -- No pair of the node is before its first child, nor after its last.
-  pub none_ahead : (h i : ℕ) → IsLevelled h n → i ≤ length (own_pairs n) → (i ≡ 0) ↔ (length (before_child n i) ≡ 0)
-  none_ahead h zero l le = ((λ e. omega arith), (λ e. omega arith))
-  none_ahead h (suc i) l le =
+  pub none_before : (h i : ℕ) → IsLevelled h n → i ≤ length (own_pairs n) → (i ≡ 0) ↔ (length (before_child n i) ≡ 0)
+  none_before h zero l le = ((λ e. omega arith), (λ e. omega arith))
+  none_before h (suc i) l le =
       let e = ap length (before_child_pair h n i (item_there (own_pairs n) i (omega arith)).0 l (omega arith)) ∙ length-append (before_own n i) _ in
       ((λ no. absurd (omega arith)), (λ no. absurd (omega (arith, e, no))))
 
-  pub none_behind : (i : ℕ) → i ≤ length (own_pairs n) → (i ≡ length (own_pairs n)) ↔ (length (after_child n i) ≡ 0)
-  none_behind i le = ((λ e. ap length (after_none n i (omega arith))), (λ e. order e (cases_lt i (length (own_pairs n)))))
+  pub none_after : (i : ℕ) → i ≤ length (own_pairs n) → (i ≡ length (own_pairs n)) ↔ (length (after_child n i) ≡ 0)
+  none_after i le = ((λ e. ap length (after_none n i (omega arith))), (λ e. order e (cases_lt i (length (own_pairs n)))))
     where
       order : length (after_child n i) ≡ 0 → (i < length (own_pairs n)) ⊎ (length (own_pairs n) ≤ i) → i ≡ length (own_pairs n)
       order e (inl k) = absurd (let some = ap length (after_child_pair n i (item_there (own_pairs n) i k).0 k) in omega (arith, some, e))

@@ -1,4 +1,4 @@
--- Ascending pairs at a cut: those in front of it, those behind it, and those amid two cuts.
+-- Ascending pairs at a cut: those before it, those after it, and those amid two cuts.
 use Rattle.std.proofs.Common.{◌≡◌, ℕ, zero, suc, ◌+◌, ◌<◌, ◌≤◌, Bool, true, false, cond, List, [], ◌∷◌, ◌++◌, length, take, drop, get_or, refl, sym, ap, subst}
 use Rattle.std.proofs.Common.{◌∙◌, arith, ◌⊎◌, inl, inr, Some, append-nil, length-append}
 use Rattle.std.specs.Prelude.{not, ◌&&◌, slice_range}
@@ -14,7 +14,7 @@ use Rattle.fc_base.specs.Ascending.{IsAscending}
 use Rattle.fc_base.specs.Query.{IsQueryOrder}
 use Rattle.fc_base.specs.Ranges.{bound_by, starts, stops, within}
 use Rattle.fc_base.proofs.AscendingFacts.{all_map, kept, left_out}
-use Rattle.fc_base.proofs.Laws.{ascending_back, smaller_ahead}
+use Rattle.fc_base.proofs.Laws.{ascending_back, smaller_before}
 use Rattle.fc_tree_node.specs.declared.node.Node.{Node}
 use Rattle.fc_tree_node.specs.Node.{own_pairs, children_of, child_at, pairs_of, IsLevelled}
 use Rattle.fc_tree_node.specs.Place.{before_child, after_child, before_own, after_own}
@@ -29,7 +29,7 @@ use Rattle.fc_tree_cursor.proofs.GapFacts.{IsAround, around_child}
 use Rattle.fc_tree_cursor.specs.Span.{between}
 use Rattle.fc_tree_cursor.specs.declared.cuts.Cut.{Cut}
 use Rattle.fc_tree_cursor.specs.declared.cuts.Cut.TheVariants.{First, Before, After, Last}
-use Rattle.fc_tree_cursor.specs.Cut.{start_cut, stop_cut, leads, ahead, amid, HoldsFrom, FailsAt, IsTurn, TurnsAt}
+use Rattle.fc_tree_cursor.specs.Cut.{start_cut, stop_cut, leads, before, amid, HoldsFrom, FailsAt, IsTurn, TurnsAt}
 
 module _ {X : Type 0} (t : X → Bool) (s : List X) where
   -- The test holds at one more item.
@@ -113,11 +113,11 @@ module _ {K V : Type 0} (cmp : K → K → Ordering) where
         go true f = absurd (let no : false ≡ true = sym e ∙ down x y l f in cc)
         go false f = f
 
-    holds_ahead : (a b : List (K × V)) (x : K × V) → IsAscending cmp (a ++ x ∷ b) → t x ≡ true → AllByRecursion (λ y. t y ≡ true) a
-    holds_ahead a b x o e = all_map _ _ (λ y l. down y x l e) a (smaller_ahead cmp a b x o)
+    holds_earlier : (a b : List (K × V)) (x : K × V) → IsAscending cmp (a ++ x ∷ b) → t x ≡ true → AllByRecursion (λ y. t y ≡ true) a
+    holds_earlier a b x o e = all_map _ _ (λ y l. down y x l e) a (smaller_before cmp a b x o)
 
-    fails_behind : (a b : List (K × V)) (x : K × V) → IsAscending cmp (a ++ x ∷ b) → t x ≡ false → AllByRecursion (λ y. t y ≡ false) b
-    fails_behind a b x o e = all_map _ _ (λ y l. fails_on x y l e) b (ascending_back cmp a (x ∷ b) o).0
+    fails_later : (a b : List (K × V)) (x : K × V) → IsAscending cmp (a ++ x ∷ b) → t x ≡ false → AllByRecursion (λ y. t y ≡ false) b
+    fails_later a b x o e = all_map _ _ (λ y l. fails_on x y l e) b (ascending_back cmp a (x ∷ b) o).0
 
     -- As many first pairs as the test holds at.
     first_held : (s : List (K × V)) → IsAscending cmp s → take (length (filter t s)) s ≡ filter t s
@@ -127,21 +127,21 @@ module _ {K V : Type 0} (cmp : K → K → Ordering) where
         go : (b : Bool) → t x ≡ b → take (length (filter t s)) s ≡ filter t s
             → take (length (cond b (x ∷ filter t s) (filter t s))) (x ∷ s) ≡ cond b (x ∷ filter t s) (filter t s)
         go true e i = ap (λ zs. x ∷ zs) i
-        go false e i = let none = left_out t s (fails_behind [] s x o e) in ap (λ zs. take (length zs) (x ∷ s)) none ∙ sym none
+        go false e i = let none = left_out t s (fails_later [] s x o e) in ap (λ zs. take (length zs) (x ∷ s)) none ∙ sym none
 
   module _ (t u : K × V → Bool) (down : HoldsBelow t) (under : HoldsBelow u) where
     abbrev amid_test : K × V → Bool
     amid_test x = not (t x) && u x
 
-    -- At a pair amid two cuts: those in front of the second are those in front of the first, and those amid.
+    -- At a pair amid two cuts: those before the second are those before the first, and those amid.
     pub parted_counts : (a b : List (K × V)) (x : K × V) → IsAscending cmp (a ++ x ∷ b) → t x ≡ false → u x ≡ true
         → length (filter u (a ++ x ∷ b)) ≡ length (filter t (a ++ x ∷ b)) + length (filter (λ x. not (t x) && u x) (a ++ x ∷ b))
     parted_counts a b x o e f =
         counts_amid t u (a ++ x ∷ b)
-        (all_both _ a (x ∷ b) (all_map _ _ (λ y h _. h) a (holds_ahead u under a b x o f))
-        ((λ _. f), all_map _ _ (λ y h g. absurd (let no : false ≡ true = sym h ∙ g in cc)) b (fails_behind t down a b x o e)))
+        (all_both _ a (x ∷ b) (all_map _ _ (λ y h _. h) a (holds_earlier u under a b x o f))
+        ((λ _. f), all_map _ _ (λ y h g. absurd (let no : false ≡ true = sym h ∙ g in cc)) b (fails_later t down a b x o e)))
 
-    -- The pairs amid two cuts lie together behind those in front of the first.
+    -- The pairs amid two cuts lie together after those before the first.
     pub amid_is : (s : List (K × V)) → IsAscending cmp s → slice_range s (length (filter t s))
         (length (filter t s) + length (filter (λ x. not (t x) && u x) s)) ≡ filter (λ x. not (t x) && u x) s
     amid_is s o = ap (λ k. take k (drop (length (filter t s)) s)) (omega arith) ∙ together s o
@@ -151,7 +151,7 @@ module _ {K V : Type 0} (cmp : K → K → Ordering) where
         together (x ∷ s) o = go (t x) refl (together s o.1)
           where
             none : t x ≡ false → filter t s ≡ []
-            none e = left_out t s (fails_behind t down [] s x o e)
+            none e = left_out t s (fails_later t down [] s x o e)
 
             alike : (s : List (K × V)) → AllByRecursion (λ y. t y ≡ false) s → filter amid_test s ≡ filter u s
             alike [] h = refl
@@ -163,8 +163,8 @@ module _ {K V : Type 0} (cmp : K → K → Ordering) where
             go true e i = i
             go false e i =
                 ap (λ zs. take (length (cond (u x) (x ∷ filter amid_test s) (filter amid_test s))) (drop (length zs) (x ∷ s))) (none e)
-                ∙ ap (λ zs. take (length (cond (u x) (x ∷ zs) zs)) (x ∷ s)) (alike s (fails_behind t down [] s x o e)) ∙ first_held u under (x ∷ s) o
-                ∙ ap (λ zs. cond (u x) (x ∷ zs) zs) (sym (alike s (fails_behind t down [] s x o e)))
+                ∙ ap (λ zs. take (length (cond (u x) (x ∷ zs) zs)) (x ∷ s)) (alike s (fails_later t down [] s x o e)) ∙ first_held u under (x ∷ s) o
+                ∙ ap (λ zs. cond (u x) (x ∷ zs) zs) (sym (alike s (fails_later t down [] s x o e)))
 
   module _ {Z : Type 0} where
     -- What stands before and after a child of a node, of the pairs that a test holds at as far as the child's place.
@@ -177,7 +177,7 @@ module _ {K V : Type 0} (cmp : K → K → Ordering) where
           let p = get_or (own_pairs n) j x in
           let e : t p ≡ true = r.holds j x (omega arith) (omega arith) in
           subst (AllByRecursion (λ y. t y ≡ true)) (sym (before_child_pair h n j x l k))
-          (all_both _ (before_own n j) (p ∷ []) (holds_ahead t down (before_own n j) (after_own n j) p (subst (IsAscending cmp) (own_pair h n j x l k) o) e)
+          (all_both _ (before_own n j) (p ∷ []) (holds_earlier t down (before_own n j) (after_own n j) p (subst (IsAscending cmp) (own_pair h n j x l k) o) e)
           (e, tt))
 
       pub fails_after : (i : ℕ) → FailsAt t (own_pairs n) i → AllByRecursion (λ y. t y ≡ false) (after_child n i)
@@ -190,7 +190,7 @@ module _ {K V : Type 0} (cmp : K → K → Ordering) where
               let p = get_or (own_pairs n) i x in
               let e : t p ≡ false = r x k in
               subst (AllByRecursion (λ y. t y ≡ false)) (sym (after_child_pair n i x k))
-              (e, fails_behind t down (before_own n i) (after_own n i) p (subst (IsAscending cmp) (own_pair h n i x l k) o) e)
+              (e, fails_later t down (before_own n i) (after_own n i) p (subst (IsAscending cmp) (own_pair h n i x l k) o) e)
 
 module _ {K V Z : Type 0} where
   -- The child's pairs ascend with the node's.
@@ -218,11 +218,11 @@ module _ {K Q S : Type 0} {cmp : K → K → Ordering} {order : K → S → Orde
 
   module _ {V Z : Type 0} (h : ℕ) (n : Node K V Z) (l : IsLevelled h n) (o : IsAscending cmp (pairs_of n)) (i : ℕ) (c : List (K × V))
       (is : IsAround n i c) where
-    -- In front of a cut are the pairs before the child at its place, and those of the child.
-    pub ahead_at : (cut : Cut Q) → TurnsAt (λ e. leads order sought cut e.0) (own_pairs n) i
-        → ahead order sought cut (pairs_of n) ≡ length (before_child n i) + ahead order sought cut c
-    ahead_at cut r =
-        ap (ahead order sought cut) is ∙ lead_and_inside (λ e. leads order sought cut e.0) (before_child n i) c (after_child n i)
+    -- Before a cut are the pairs before the child at its place, and those of the child.
+    pub before_at : (cut : Cut Q) → TurnsAt (λ e. leads order sought cut e.0) (own_pairs n) i
+        → before order sought cut (pairs_of n) ≡ length (before_child n i) + before order sought cut c
+    before_at cut r =
+        ap (before order sought cut) is ∙ lead_and_inside (λ e. leads order sought cut e.0) (before_child n i) c (after_child n i)
         (holds_before cmp _ (leads_below cut) h n l o i r) (fails_after cmp _ (leads_below cut) h n l o i r.fails)
 
     -- Amid two cuts at one place are pairs of the child alone.
@@ -239,34 +239,34 @@ module _ {K Q S : Type 0} {cmp : K → K → Ordering} {order : K → S → Orde
         both_false true = refl
         both_false false = refl
 
-    -- So in front of the second come the pairs before the child, and those of the child up to there.
+    -- So before the second come the pairs before the child, and those of the child up to there.
     pub both_at : (lo hi : Cut Q) (stop : ℕ) → IsTurn (λ e. leads order sought lo e.0) (own_pairs n) 0 i
         → IsTurn (λ e. leads order sought hi e.0) (own_pairs n) i stop → stop ≤ i
-        → ahead order sought lo (pairs_of n) + amid order sought lo hi (pairs_of n)
-        ≡ length (before_child n i) + (ahead order sought lo c + amid order sought lo hi c)
+        → before order sought lo (pairs_of n) + amid order sought lo hi (pairs_of n)
+        ≡ length (before_child n i) + (before order sought lo c + amid order sought lo hi c)
     both_at lo hi stop r v le =
         let same : stop ≡ i = (omega arith) in
         let turn = turn_first r in
-        let a = ahead_at lo turn in
+        let a = before_at lo turn in
         let b = amid_at lo hi turn (subst (FailsAt (λ e. leads order sought hi e.0) (own_pairs n)) same v.fails) in
         omega (arith, a, b)
 
   -- The two cuts part at a pair of the node.
   pub amid_parted : {V Z : Type 0} (h : ℕ) (n : Node K V Z) → IsLevelled h n → IsAscending cmp (pairs_of n) → (lo hi : Cut Q) (start stop : ℕ) → start < stop
       → TurnsAt (λ e. leads order sought lo e.0) (own_pairs n) start → IsTurn (λ e. leads order sought hi e.0) (own_pairs n) start stop
-      → ahead order sought hi (pairs_of n) ≡ ahead order sought lo (pairs_of n) + amid order sought lo hi (pairs_of n)
+      → before order sought hi (pairs_of n) ≡ before order sought lo (pairs_of n) + amid order sought lo hi (pairs_of n)
   amid_parted h n l o lo hi start stop lt r v =
       let k : start < length (own_pairs n) = (omega arith) in
       let x = (item_there (own_pairs n) start k).0 in
       let p = get_or (own_pairs n) start x in
       let is = own_pair h n start x l k in
-      subst (λ s. ahead order sought hi s ≡ ahead order sought lo s + amid order sought lo hi s) (sym is)
+      subst (λ s. before order sought hi s ≡ before order sought lo s + amid order sought lo hi s) (sym is)
       (parted_counts cmp (λ e. leads order sought lo e.0) (λ e. leads order sought hi e.0) (leads_below lo) (leads_below hi) (before_own n start)
       (after_own n start) p (subst (IsAscending cmp) is o) (r.fails x k) (v.holds start x (omega arith) lt))
 
   -- Where a range has but one bound.
   pub amid_open : {V : Type 0} (lo hi : Cut Q) → ((lo ≡ First) ⊎ (hi ≡ Last)) → (s : List (K × V))
-      → ahead order sought hi s ≡ ahead order sought lo s + amid order sought lo hi s
+      → before order sought hi s ≡ before order sought lo s + amid order sought lo hi s
   amid_open lo hi e s = counts_amid (λ e. leads order sought lo e.0) (λ e. leads order sought hi e.0) s (each _ (λ x. under x.0) s)
     where
       under : (k : K) → leads order sought lo k ≡ true → leads order sought hi k ≡ true
@@ -288,9 +288,9 @@ module _ {K Q S : Type 0} {cmp : K → K → Ordering} {order : K → S → Orde
   stop_leads Unbounded k = refl
 
   module _ {V : Type 0} (lo hi : Bound Q) (s : List (K × V)) where
-    start_counts : ahead order sought (start_cut lo) s + length (filter (λ e. starts order (bound_by sought lo) e.0) s) ≡ length s
+    start_counts : before order sought (start_cut lo) s + length (filter (λ e. starts order (bound_by sought lo) e.0) s) ≡ length s
     start_counts =
-        ap (λ zs. ahead order sought (start_cut lo) s + length zs)
+        ap (λ zs. before order sought (start_cut lo) s + length zs)
         (sym (filter_agree (λ e. not (leads order sought (start_cut lo) e.0)) (λ e. starts order (bound_by sought lo) e.0) (λ e. start_leads lo e.0) s))
         ∙ both_counts (λ e. leads order sought (start_cut lo) e.0) s
 
@@ -299,16 +299,16 @@ module _ {K Q S : Type 0} {cmp : K → K → Ordering} {order : K → S → Orde
     within_is = filter_agree _ _ (λ e. ap (λ b. b && leads order sought (stop_cut hi) e.0) (start_leads lo e.0)
         ∙ ap (λ b. starts order (bound_by sought lo) e.0 && b) (stop_leads hi e.0)) s
 
-    -- So many pairs lie in front of a range's start, and so many in front of its end.
+    -- So many pairs lie before a range's start, and so many before its end.
     abbrev pub AreEnds : ℕ → ℕ → Type 0
     AreEnds i j = (i + length (filter (λ e. starts order (bound_by sought lo) e.0) s) ≡ length s)
         × (j ≡ i + length (within order (bound_by sought lo) (bound_by sought hi) s))
 
-    -- In front of a range are the pairs in front of its first cut, and in it those amid both.
-    pub ends_told : (a b : Cut Q) (i j : ℕ) → a ≡ start_cut lo → b ≡ stop_cut hi → i ≡ ahead order sought a s
-        → j ≡ ahead order sought a s + amid order sought a b s → AreEnds i j
+    -- Before a range are the pairs before its first cut, and in it those amid both.
+    pub ends_told : (a b : Cut Q) (i j : ℕ) → a ≡ start_cut lo → b ≡ stop_cut hi → i ≡ before order sought a s
+        → j ≡ before order sought a s + amid order sought a b s → AreEnds i j
     ends_told a b i j ea eb ei ej =
-        let first = ap (λ c. ahead order sought c s) ea in
+        let first = ap (λ c. before order sought c s) ea in
         let inside = ap (λ c. amid order sought c b s) ea ∙ ap (λ c. amid order sought (start_cut lo) c s) eb ∙ ap length within_is in
         (omega (arith, ei, first, start_counts), omega (arith, ei, ej, inside))
 
@@ -317,11 +317,11 @@ module _ {K Q S : Type 0} {cmp : K → K → Ordering} {order : K → S → Orde
         → j ≡ i + length (within order (bound_by sought lo) (bound_by sought hi) s)
         → slice_range s i j ≡ within order (bound_by sought lo) (bound_by sought hi) s
     within_at i j o e f =
-        let a : i ≡ ahead order sought (start_cut lo) s = (let c = start_counts in omega (arith, c, e)) in
-        let b : j ≡ ahead order sought (start_cut lo) s + amid order sought (start_cut lo) (stop_cut hi) s = f
+        let a : i ≡ before order sought (start_cut lo) s = (let c = start_counts in omega (arith, c, e)) in
+        let b : j ≡ before order sought (start_cut lo) s + amid order sought (start_cut lo) (stop_cut hi) s = f
         ∙ ap (λ k. k + length (within order (bound_by sought lo) (bound_by sought hi) s)) a
-        ∙ ap (λ k. ahead order sought (start_cut lo) s + k) (sym (ap length within_is)) in
-        ap (λ k. slice_range s k j) a ∙ ap (slice_range s (ahead order sought (start_cut lo) s)) b
+        ∙ ap (λ k. before order sought (start_cut lo) s + k) (sym (ap length within_is)) in
+        ap (λ k. slice_range s k j) a ∙ ap (slice_range s (before order sought (start_cut lo) s)) b
         ∙ amid_is cmp (λ e. leads order sought (start_cut lo) e.0) (λ e. leads order sought (stop_cut hi) e.0) (leads_below (start_cut lo))
         (leads_below (stop_cut hi)) s o ∙ within_is
 
@@ -331,21 +331,22 @@ module _ {K Q S : Type 0} {cmp : K → K → Ordering} {order : K → S → Orde
     In d = within order (bound_by sought lo) (bound_by sought hi) (entries d)
 
     one_bound : (a b : Cut Q) → a ≡ start_cut lo → b ≡ stop_cut hi → ((a ≡ First) ⊎ (b ≡ Last))
-        → slice_range (pairs_of n) (ahead order sought a (pairs_of n)) (ahead order sought b (pairs_of n)) ≡ In m
+        → slice_range (pairs_of n) (before order sought a (pairs_of n)) (before order sought b (pairs_of n)) ≡ In m
     one_bound a b e f one =
         let t = ends_told lo hi (pairs_of n) a b _ _ e f refl (amid_open a b one (pairs_of n)) in
         within_at lo hi (pairs_of n) _ _ (subst (λ d. IsAscending cmp (entries d)) is o) t.0 t.1 ∙ ap In (sym is)
 
     pub start_alone : (cut : Cut Q) → cut ≡ start_cut lo → hi ≡ Unbounded
-        → slice_range (pairs_of n) (ahead order sought cut (pairs_of n)) (length (pairs_of n)) ≡ In m
+        → slice_range (pairs_of n) (before order sought cut (pairs_of n)) (length (pairs_of n)) ≡ In m
     start_alone cut e f =
-        ap (slice_range (pairs_of n) (ahead order sought cut (pairs_of n))) (sym (ap length (kept _ (pairs_of n) (each _ (λ x. refl) (pairs_of n)))))
+        ap (slice_range (pairs_of n) (before order sought cut (pairs_of n))) (sym (ap length (kept _ (pairs_of n) (each _ (λ x. refl) (pairs_of n)))))
         ∙ one_bound cut Last e (sym (ap stop_cut f)) (inr refl)
 
     pub stop_alone : (cut : Cut Q) → cut ≡ stop_cut hi → lo ≡ Unbounded
-        → slice_range (pairs_of n) 0 (ahead order sought cut (pairs_of n)) ≡ In m
+        → slice_range (pairs_of n) 0 (before order sought cut (pairs_of n)) ≡ In m
     stop_alone cut e f =
-        ap (λ k. slice_range (pairs_of n) k (ahead order sought cut (pairs_of n))) (sym (ap length (left_out _ (pairs_of n) (each _ (λ x. refl) (pairs_of n)))))
+        ap (λ k. slice_range (pairs_of n) k (before order sought cut (pairs_of n)))
+        (sym (ap length (left_out _ (pairs_of n) (each _ (λ x. refl) (pairs_of n)))))
         ∙ one_bound First cut (sym (ap start_cut f)) e (inl refl)
 
   -- In a map they lie between the gaps of a range's ends.

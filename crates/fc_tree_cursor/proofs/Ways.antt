@@ -503,7 +503,7 @@ module _ {K V : Type 0} where
               ∙ node_more (take x.level new) (get_or new x.level 0) root
               ∙ ap (λ d. child_at d (get_or new x.level 0)) (sym (up root is)) ∙ ap (child_at n) step)
 
-      -- On past the node's own pair behind the leaf, to the next leaf.
+      -- On over the node's own pair after the leaf, to the next leaf.
       pub near_next : IsSoundMap m → (y : K × V) → get_or gap x.level 0 < length (own_pairs n)
           → length (own_pairs (child_at n (get_or gap x.level 0))) ≤ get_or gap (x.level + 1) 0
           → mid ≡ slice_set gap x.level (get_or gap x.level 0 + 1) → new ≡ slice_set mid (x.level + 1) 0 → y ≡ get_or (own_pairs n) (get_or gap x.level 0) y
@@ -526,7 +526,7 @@ module _ {K V : Type 0} where
           (goes_here (take (x.level + 1) mid) new 0 0 (child_at n (i + 1)) 0 0 next (omega (arith, ap length (leaf_children _ next.1))) (omega arith)
           (end_set mid new (x.level + 1) 0 (omega (arith, long, set_length gap mid x.level _ e)) f) refl refl) (omega (arith, next_before 1 n i l own)))
 
-      -- Back past the node's own pair ahead of the leaf, to the leaf before.
+      -- Back over the node's own pair before the leaf, to the leaf before.
       pub near_back : IsSoundMap m → (y : K × V) → 0 < get_or gap x.level 0 → get_or gap (x.level + 1) 0 ≡ 0
           → mid ≡ slice_set gap x.level (get_or gap x.level 0 - 1) → new
           ≡ slice_set mid (x.level + 1) (length (own_pairs (child_at n (get_or gap x.level 0 - 1)))) → y ≡ get_or (own_pairs n) (get_or gap x.level 0 - 1) y

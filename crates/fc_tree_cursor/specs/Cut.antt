@@ -7,35 +7,35 @@ use Rattle.std.specs.declared.ops.Bound.TheVariants.{Included, Excluded, Unbound
 use Rattle.fc_tree_cursor.specs.declared.cuts.Cut.{Cut}
 use Rattle.fc_tree_cursor.specs.declared.cuts.Cut.TheVariants.{First, Before, After, Last}
 
--- Behind the keys that are in front of a start.
+-- After the keys that are before a start.
 abbrev pub start_cut : {Q : Type 0} → Bound Q → Cut Q
 start_cut (Included q) = Before q
 start_cut (Excluded q) = After q
 start_cut Unbounded = First
 
--- Behind the keys that are not behind an end.
+-- After the keys that are not after an end.
 abbrev pub stop_cut : {Q : Type 0} → Bound Q → Cut Q
 stop_cut (Included q) = After q
 stop_cut (Excluded q) = Before q
 stop_cut Unbounded = Last
 
--- Whether what stands so to what is sought is in front of it, or is equal where the flag says so.
-abbrev pub lies_ahead : Bool → Ordering → Bool
-lies_ahead takes_equal r = if takes_equal then is_le r else is_lt r
+-- Whether what stands so to what is sought is before it, or is equal where the flag says so.
+abbrev pub lies_before : Bool → Ordering → Bool
+lies_before takes_equal r = if takes_equal then is_le r else is_lt r
 
 module _ {K Q S : Type 0} (order : K → S → Ordering) (sought : Q → S) where
-  -- Whether a key lies in front of a cut.
+  -- Whether a key lies before a cut.
   abbrev pub leads : Cut Q → K → Bool
   leads First k = false
   leads (Before q) k = is_lt (order k (sought q))
   leads (After q) k = is_le (order k (sought q))
   leads Last k = true
 
-  -- How many pairs lie in front of a cut.
-  abbrev pub ahead : {V : Type 0} → Cut Q → List (K × V) → ℕ
-  ahead cut s = length (filter (λ e. leads cut e.0) s)
+  -- How many pairs lie before a cut.
+  abbrev pub before : {V : Type 0} → Cut Q → List (K × V) → ℕ
+  before cut s = length (filter (λ e. leads cut e.0) s)
 
-  -- How many pairs lie behind the one cut and in front of the other.
+  -- How many pairs lie after the one cut and before the other.
   abbrev pub amid : {V : Type 0} → Cut Q → Cut Q → List (K × V) → ℕ
   amid lo hi s = length (filter (λ e. not (leads lo e.0) && leads hi e.0) s)
 
@@ -54,7 +54,7 @@ pub record IsTurn {X : Type 0} (test : X → Bool) (s : List X) (from i : ℕ) :
   pub holds : HoldsFrom test s from i
   pub fails : FailsAt test s i
 
--- The test holds just ahead of a place, and there it does not.
+-- The test holds just before a place, and there it does not.
 pub record TurnsAt {X : Type 0} (test : X → Bool) (s : List X) (i : ℕ) : Type 0 where
   pub within : i ≤ length s
   pub holds : HoldsFrom test s (i - 1) i

@@ -3,3 +3,5 @@ pub mod Span
 pub mod Gap
 pub mod Cut
 pub mod Leaf
+pub mod Ends
+pub mod Beside

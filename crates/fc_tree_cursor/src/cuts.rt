@@ -1,7 +1,7 @@
 //! Where the keys of a tree are cut by a bound of a range, and the place of a cut in a node.
 ghost use Rattle.std.specs.Prelude.{◌≡◌, ◌≤◌, length};
 ghost use Rattle.fc_tree_node.specs.Node.{own_pairs};
-ghost use Rattle.fc_tree_cursor.specs.Cut.{start_cut, stop_cut, leads, lies_ahead, IsTurn};
+ghost use Rattle.fc_tree_cursor.specs.Cut.{start_cut, stop_cut, leads, lies_before, IsTurn};
 
 use fc_base::{Handle, Query};
 use fc_tree_node::node::Node;
@@ -11,13 +11,13 @@ use std::ops::Bound;
 /// A cut between ascending keys, by what they are searched by.
 #[derive(Clone, Copy)]
 pub enum Cut<Q> {
-    /// In front of all keys.
+    /// Before all keys.
     First,
-    /// Behind the keys below what is sought.
+    /// After the keys below what is sought.
     Before(Q),
-    /// Behind the keys that are not above what is sought.
+    /// After the keys that are not above what is sought.
     After(Q),
-    /// Behind all keys.
+    /// After all keys.
     Last,
 }
 
@@ -43,7 +43,7 @@ pub(crate) fn stop_of<Q: Copy>(hi: &Bound<Q>) -> Cut<Q>
     }
 }
 
-/// The first of the node's own pairs from a place on that is not in front of the cut, or their end.
+/// The first of the node's own pairs from a place on that is not before the cut, or their end.
 pub(crate) fn place_in<K: Ord, V, Q: Query<K>, A: Handle>(
     node: &Node<K, V, A>,
     cut: &Cut<Q>,
@@ -54,37 +54,37 @@ pub(crate) fn place_in<K: Ord, V, Q: Query<K>, A: Handle>(
 {
     match cut {
         Cut::First => from,
-        Cut::Before(key) => first_not_ahead(node, *key, false, from),
-        Cut::After(key) => first_not_ahead(node, *key, true, from),
+        Cut::Before(key) => first_not_before(node, *key, false, from),
+        Cut::After(key) => first_not_before(node, *key, true, from),
         Cut::Last => node.len(),
     }
 }
 
-// The first of the node's own pairs from a place on whose key is not in front of what is sought, or their end.
+// The first of the node's own pairs from a place on whose key is not before what is sought, or their end.
 #[inline(always)]
 #[tactic(auto, using(crate::proofs::Turns::held_on, crate::proofs::Turns::not_there))]
-fn first_not_ahead<K: Ord, V, Q: Query<K>, A: Handle>(
+fn first_not_before<K: Ord, V, Q: Query<K>, A: Handle>(
     node: &Node<K, V, A>,
     key: Q,
     takes_equal: bool,
     from: usize,
 ) -> usize
     requires { from ≤ length (own_pairs node.now) }
-    ensures { IsTurn (λ e. lies_ahead takes_equal (Q.order e.0 (Q.sought key))) (own_pairs node.now) from result }
+    ensures { IsTurn (λ e. lies_before takes_equal (Q.order e.0 (Q.sought key))) (own_pairs node.now) from result }
 {
     let n = node.len();
     for i in from..n {
-        if !lies_ahead(key.order_of(&node.pair(i).0), takes_equal) {
+        if !lies_before(key.order_of(&node.pair(i).0), takes_equal) {
             return i;
         }
     }
     n
 }
 
-// Whether a key that stands so to what is sought is in front of it, or is equal where the flag says so.
+// Whether a key that stands so to what is sought is before it, or is equal where the flag says so.
 #[inline(always)]
-fn lies_ahead(order: Ordering, takes_equal: bool) -> bool
-    ensures { result ≡ lies_ahead takes_equal order }
+fn lies_before(order: Ordering, takes_equal: bool) -> bool
+    ensures { result ≡ lies_before takes_equal order }
 {
     if takes_equal {
         order.is_le()

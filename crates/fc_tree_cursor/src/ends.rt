@@ -12,12 +12,12 @@ ghost use Rattle.fc_tree_node.specs.Node.{own_pairs, pairs_of, IsLevelled, IsTre
 ghost use Rattle.fc_tree_node.specs.Path.{before_gap};
 ghost use Rattle.fc_tree_node.specs.Tree.{entries, IsSoundMap};
 ghost use Rattle.fc_tree_node.specs.TreePlace.{before_gap_in};
-ghost use Rattle.fc_tree_cursor.specs.Cut.{leads, ahead, amid, TurnsAt};
+ghost use Rattle.fc_tree_cursor.specs.Cut.{leads, before, amid, TurnsAt};
 ghost use Rattle.fc_tree_cursor.specs.Gap.{AreEndsIn, IsGapIn, GoesOn, EndsIn};
 ghost use Rattle.fc_tree_cursor.specs.Span.{IsPart};
 
 use crate::cuts::{Cut, place_in, start_of, stop_of};
-use crate::gaps::{push_first, push_last};
+use crate::gaps::{first_leaf_edge, last_leaf_edge};
 use fc_base::{Handle, Query};
 use fc_tree_node::node::Node;
 use fc_tree_node::path::Path;
@@ -31,7 +31,7 @@ pub fn first_gap_in<K, V, A: Handle>(root: &Option<Node<K, V, A>>) -> Path
 {
     let mut gap = Path::new();
     if let Some(root) = root {
-        push_first(root, &mut gap);
+        first_leaf_edge(root, &mut gap);
     }
     gap
 }
@@ -44,7 +44,7 @@ pub fn last_gap_in<K, V, A: Handle>(root: &Option<Node<K, V, A>>) -> Path
 {
     let mut gap = Path::new();
     if let Some(root) = root {
-        push_last(root, &mut gap);
+        last_leaf_edge(root, &mut gap);
     }
     gap
 }
@@ -89,7 +89,7 @@ pub(crate) fn push_ends<'a, K: Ord, V, Q: Query<K>, A: Handle>(
     push_both(root, &start_of(lo), &stop_of(hi), front, back)
 }
 
-// Goes on to the gaps at two cuts below the node, the second not in front of the first, and answers the leaf of the first.
+// Goes on to the gaps at two cuts below the node, the second not before the first, and answers the leaf of the first.
 #[tactic(auto, using(crate::proofs::Turns::turn_first, crate::proofs::Turns::turn_later))]
 fn push_both<'a, K: Ord, V, Q: Query<K>, A: Handle>(
     node: &'a Node<K, V, A>,
@@ -100,8 +100,8 @@ fn push_both<'a, K: Ord, V, Q: Query<K>, A: Handle>(
 ) -> &'a Node<K, V, A>
     requires levels { (h : ℕ) × IsLevelled h node.now × (length front.old + h < most_levels) × (length back.old + h < most_levels) }
     requires order { IsAscending K.cmp (pairs_of node.now) }
-    ensures front { GoesOn front.old front.new node.now (ahead Q.order Q.sought lo.now (pairs_of node.now)) }
-    ensures back { GoesOn back.old back.new node.now (ahead Q.order Q.sought lo.now (pairs_of node.now) + amid Q.order Q.sought lo.now hi.now (pairs_of node.now)) }
+    ensures front { GoesOn front.old front.new node.now (before Q.order Q.sought lo.now (pairs_of node.now)) }
+    ensures back { GoesOn back.old back.new node.now (before Q.order Q.sought lo.now (pairs_of node.now) + amid Q.order Q.sought lo.now hi.now (pairs_of node.now)) }
     ensures leaf { EndsIn front.old front.new node.now result.now }
 {
     let start = place_in(node, lo, 0);
@@ -128,7 +128,7 @@ fn push_cut<'a, K: Ord, V, Q: Query<K>, A: Handle>(
     requires levels { (h : ℕ) × IsLevelled h node.now × (length gap.old + h < most_levels) }
     requires order { IsAscending K.cmp (pairs_of node.now) }
     requires place { TurnsAt (λ e. leads Q.order Q.sought cut.now e.0) (own_pairs node.now) place }
-    ensures gap { GoesOn gap.old gap.new node.now (ahead Q.order Q.sought cut.now (pairs_of node.now)) }
+    ensures gap { GoesOn gap.old gap.new node.now (before Q.order Q.sought cut.now (pairs_of node.now)) }
     ensures leaf { EndsIn gap.old gap.new node.now result.now }
 {
     gap.push(place);
@@ -146,11 +146,11 @@ fn is_outer(is_node_outer: bool, place: usize, edge: usize) -> bool
     is_node_outer && place == edge
 }
 
-/// Goes on below the node to the end of the leaf where the cut is, and takes the leaf's pairs behind the cut. The flag says whether the
-/// node is the last of its level, and then whether the leaf is, so that no pair is behind what is taken.
+/// Goes on below the node to the end of the leaf where the cut is, and takes the leaf's pairs after the cut. The flag says whether the
+/// node is the last of its level, and then whether the leaf is, so that no pair is after what is taken.
 ///
 /// Run and flag are written where they belong, and not answered: of calls that answer nothing a compiler makes a loop.
-pub(crate) fn push_start<'a, K: Ord, V, Q: Query<K>, A: Handle>(
+pub(crate) fn lower_bound_edge<'a, K: Ord, V, Q: Query<K>, A: Handle>(
     node: &'a Node<K, V, A>,
     cut: &Cut<Q>,
     gap: &mut Path,
@@ -159,9 +159,9 @@ pub(crate) fn push_start<'a, K: Ord, V, Q: Query<K>, A: Handle>(
 )
     requires levels { (h : ℕ) × IsLevelled h node.now × (length gap.old + h < most_levels) }
     requires order { IsAscending K.cmp (pairs_of node.now) }
-    ensures gap { GoesOn gap.old gap.new node.now (ahead Q.order Q.sought cut.now (pairs_of node.now) + length run.new.now) }
-    ensures run { IsPart run.new.now (pairs_of node.now) (ahead Q.order Q.sought cut.now (pairs_of node.now)) (ahead Q.order Q.sought cut.now (pairs_of node.now) + length run.new.now) }
-    ensures last { IsTrue is_last.new ↔ (IsTrue is_last.old × (ahead Q.order Q.sought cut.now (pairs_of node.now) + length run.new.now ≡ length (pairs_of node.now))) }
+    ensures gap { GoesOn gap.old gap.new node.now (before Q.order Q.sought cut.now (pairs_of node.now) + length run.new.now) }
+    ensures run { IsPart run.new.now (pairs_of node.now) (before Q.order Q.sought cut.now (pairs_of node.now)) (before Q.order Q.sought cut.now (pairs_of node.now) + length run.new.now) }
+    ensures last { IsTrue is_last.new ↔ (IsTrue is_last.old × (before Q.order Q.sought cut.now (pairs_of node.now) + length run.new.now ≡ length (pairs_of node.now))) }
 {
     let place = place_in(node, cut, 0);
     let end = node.len();
@@ -172,12 +172,12 @@ pub(crate) fn push_start<'a, K: Ord, V, Q: Query<K>, A: Handle>(
     }
     gap.push(place);
     *is_last = is_outer(*is_last, place, end);
-    push_start(node.child(place), cut, gap, run, is_last);
+    lower_bound_edge(node.child(place), cut, gap, run, is_last);
 }
 
-/// Goes on below the node to the start of the leaf where the cut is, and takes the leaf's pairs in front of the cut. The flag says
+/// Goes on below the node to the start of the leaf where the cut is, and takes the leaf's pairs before the cut. The flag says
 /// whether the node is the first of its level, and then whether the leaf is.
-pub(crate) fn push_stop<'a, K: Ord, V, Q: Query<K>, A: Handle>(
+pub(crate) fn upper_bound_edge<'a, K: Ord, V, Q: Query<K>, A: Handle>(
     node: &'a Node<K, V, A>,
     cut: &Cut<Q>,
     gap: &mut Path,
@@ -186,9 +186,9 @@ pub(crate) fn push_stop<'a, K: Ord, V, Q: Query<K>, A: Handle>(
 )
     requires levels { (h : ℕ) × IsLevelled h node.now × (length gap.old + h < most_levels) }
     requires order { IsAscending K.cmp (pairs_of node.now) }
-    ensures gap { GoesOn gap.old gap.new node.now (ahead Q.order Q.sought cut.now (pairs_of node.now) - length run.new.now) }
-    ensures run { IsPart run.new.now (pairs_of node.now) (ahead Q.order Q.sought cut.now (pairs_of node.now) - length run.new.now) (ahead Q.order Q.sought cut.now (pairs_of node.now)) }
-    ensures first { IsTrue is_first.new ↔ (IsTrue is_first.old × (ahead Q.order Q.sought cut.now (pairs_of node.now) - length run.new.now ≡ 0)) }
+    ensures gap { GoesOn gap.old gap.new node.now (before Q.order Q.sought cut.now (pairs_of node.now) - length run.new.now) }
+    ensures run { IsPart run.new.now (pairs_of node.now) (before Q.order Q.sought cut.now (pairs_of node.now) - length run.new.now) (before Q.order Q.sought cut.now (pairs_of node.now)) }
+    ensures first { IsTrue is_first.new ↔ (IsTrue is_first.old × (before Q.order Q.sought cut.now (pairs_of node.now) - length run.new.now ≡ 0)) }
 {
     let place = place_in(node, cut, 0);
     if node.is_leaf() {
@@ -198,5 +198,5 @@ pub(crate) fn push_stop<'a, K: Ord, V, Q: Query<K>, A: Handle>(
     }
     gap.push(place);
     *is_first = is_outer(*is_first, place, 0);
-    push_stop(node.child(place), cut, gap, run, is_first);
+    upper_bound_edge(node.child(place), cut, gap, run, is_first);
 }

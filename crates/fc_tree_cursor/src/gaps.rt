@@ -13,14 +13,14 @@ use fc_tree_node::node::Node;
 use fc_tree_node::path::Path;
 
 // One step, to a pair of the node itself, where it has so many on that side; 0 where it has none.
-fn one_of(count: usize) -> usize
+pub(crate) fn one_of(count: usize) -> usize
     ensures none { result ≡ 0 → count ≡ 0 }
     ensures one { 0 < result → (result ≡ 1) × (0 < count) }
 {
     if 0 < count { 1 } else { 0 }
 }
 
-/// How many steps of the path to a gap lead past the pair before it: 0 where there is none.
+/// How many steps of the path to a gap lead over the pair before it: 0 where there is none.
 pub fn steps_to_previous<K, V, A: Handle>(node: &Node<K, V, A>, gap: &[u8]) -> usize
     requires some { 0 < length gap.now }
     requires path { IsPath gap.now node.now }
@@ -40,7 +40,10 @@ pub fn steps_to_previous<K, V, A: Handle>(node: &Node<K, V, A>, gap: &[u8]) -> u
 }
 
 /// Goes on to the last gap below the node, and answers its leaf.
-pub fn push_last<'a, K, V, A: Handle>(node: &'a Node<K, V, A>, gap: &mut Path) -> &'a Node<K, V, A>
+pub fn last_leaf_edge<'a, K, V, A: Handle>(
+    node: &'a Node<K, V, A>,
+    gap: &mut Path,
+) -> &'a Node<K, V, A>
     requires levels { (h : ℕ) × IsLevelled h node.now × (length gap.old + h < most_levels) }
     ensures gap { GoesOn gap.old gap.new node.now (length (pairs_of node.now)) }
     ensures leaf { EndsIn gap.old gap.new node.now result.now }
@@ -48,20 +51,23 @@ pub fn push_last<'a, K, V, A: Handle>(node: &'a Node<K, V, A>, gap: &mut Path) -
     let end = node.len();
     gap.push(end);
     if end < node.child_count() {
-        return push_last(node.child(end), gap);
+        return last_leaf_edge(node.child(end), gap);
     }
     node
 }
 
 /// Goes on to the first gap below the node, and answers its leaf.
-pub fn push_first<'a, K, V, A: Handle>(node: &'a Node<K, V, A>, gap: &mut Path) -> &'a Node<K, V, A>
+pub fn first_leaf_edge<'a, K, V, A: Handle>(
+    node: &'a Node<K, V, A>,
+    gap: &mut Path,
+) -> &'a Node<K, V, A>
     requires levels { (h : ℕ) × IsLevelled h node.now × (length gap.old + h < most_levels) }
     ensures gap { GoesOn gap.old gap.new node.now 0 }
     ensures leaf { EndsIn gap.old gap.new node.now result.now }
 {
     gap.push(0);
     if 0 < node.child_count() {
-        return push_first(node.child(0), gap);
+        return first_leaf_edge(node.child(0), gap);
     }
     node
 }
@@ -77,6 +83,6 @@ pub fn push_gap_before<K, V, A: Handle>(node: &Node<K, V, A>, place: &[u8], gap:
     if place.len() > 1 {
         push_gap_before(node.child(step), &place[1..], gap);
     } else if step < node.child_count() {
-        push_last(node.child(step), gap);
+        last_leaf_edge(node.child(step), gap);
     }
 }

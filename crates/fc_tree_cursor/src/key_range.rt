@@ -46,7 +46,7 @@ pub trait KeyRange<K: Ord>: Drop {
         ensures front { length (before_gap_in root.now result.0) + length (filter (λ e. starts order (start self.now) e.0) (entries root.now)) ≡ length (entries root.now) }
         ensures back { length (before_gap_in root.now result.1) ≡ length (before_gap_in root.now result.0) + length (within order (start self.now) (end self.now) (entries root.now)) };
 
-    // The keys in front of a bound come first, then those at it, then those behind it.
+    // The keys before a bound come first, then those at it, then those after it.
     ghost fits: { IsQueryOrder K.cmp order };
 }
 
@@ -202,7 +202,7 @@ impl<K: Ord> KeyRange<K> for RangeFull {
     }
 }
 
-// The end of an inclusive range, as a bound by a reference. A range that has no value left ends in front of its end.
+// The end of an inclusive range, as a bound by a reference. A range that has no value left ends before its end.
 #[tactic(auto, using(crate::proofs::KeyRanges::empty_end))]
 fn end_of<K: Ord>(range: &RangeInclusive<K>) -> Bound<&K>
     ensures { (k : K) → (starts K.cmp (Included (range_inclusive_start range.now)) k && stops K.cmp (bound_now result) k) ≡ (starts K.cmp (Included (range_inclusive_start range.now)) k && stops K.cmp (last_of range.now) k) }

@@ -1,6 +1,6 @@
 //! Steps from gap to gap where values are written: within a leaf, and on to the next one.
 //!
-//! A walk that keeps how many pairs of its leaf lie ahead goes from pair to pair there without a look at the tree.
+//! A walk that keeps how many pairs of its leaf lie after it goes from pair to pair there without a look at the tree.
 ghost use Rattle.std.specs.Prelude.{◌≡◌, ℕ, suc, ◌+◌, ◌-◌, ◌<◌, ◌≤◌, [], ◌∷◌, ◌++◌, length, slice_index, take};
 ghost use Rattle.fc_tree_node.specs.Node.{own_pairs, pairs_of, IsLevelled, IsTree};
 ghost use Rattle.fc_tree_node.specs.LeafGap.{IsLeafGap};
@@ -30,7 +30,7 @@ pub fn pairs_after<K, V, A: Handle>(node: &Node<K, V, A>, gap: &[u8]) -> usize
     }
 }
 
-/// Goes on past so many pairs of the leaf. A path of no step stays.
+/// Goes on over so many pairs of the leaf. A path of no step stays.
 #[inline]
 pub fn advance(gap: &mut Path, count: usize)
     requires small { 0 < length gap.old → slice_index gap.old (length gap.old - 1) + count < 256 }
@@ -62,10 +62,10 @@ fn go_down<K, V, A: Handle>(node: &Node<K, V, A>, gap: &mut Path, level: usize) 
     go_down(node.child(step), gap, level + 1)
 }
 
-/// Goes on past the pair after a gap, and answers how many steps of the path lead to its node, its place there, and how many pairs of
+/// Goes on over the pair after a gap, and answers how many steps of the path lead to its node, its place there, and how many pairs of
 /// the leaf lie after the gap where the path then leads.
 #[inline]
-pub fn pass_next<K, V, A: Handle>(root: &Node<K, V, A>, gap: &mut Path) -> (usize, usize, usize)
+pub fn next_place<K, V, A: Handle>(root: &Node<K, V, A>, gap: &mut Path) -> (usize, usize, usize)
     requires levels { IsTree root.now }
     requires gap { IsLeafGap gap.old root.now }
     requires later { length (before_gap gap.old root.now) < length (pairs_of root.now) }
@@ -86,7 +86,7 @@ pub fn pass_next<K, V, A: Handle>(root: &Node<K, V, A>, gap: &mut Path) -> (usiz
 
 /// Goes back to the gap before the pair before it in the leaf.
 #[inline]
-pub fn go_to_previous(gap: &mut Path)
+pub fn next_back_in_leaf(gap: &mut Path)
     requires some { 0 < length gap.old }
     requires before { 0 < slice_index gap.old (length gap.old - 1) }
     requires small { slice_index gap.old (length gap.old - 1) < 256 }

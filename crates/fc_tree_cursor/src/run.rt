@@ -186,7 +186,7 @@ fn lowest_with_previous<'a, K, V, A: Handle>(
 }
 
 // Goes on to the first gap below a node at a level.
-fn set_first<K, V, A: Handle>(node: &Node<K, V, A>, gap: &mut Path, level: usize)
+fn first_leaf_edge_at<K, V, A: Handle>(node: &Node<K, V, A>, gap: &mut Path, level: usize)
     requires level { level < length gap.old }
     requires levels { IsLevelled (length gap.old - level - 1) node.now }
     ensures { GoesOn (take level gap.old) gap.new node.now 0 }
@@ -194,12 +194,12 @@ fn set_first<K, V, A: Handle>(node: &Node<K, V, A>, gap: &mut Path, level: usize
     let len = gap.len();
     gap.set(level, 0);
     if level + 1 < len {
-        set_first(node.child(0), gap, level + 1);
+        first_leaf_edge_at(node.child(0), gap, level + 1);
     }
 }
 
 // Goes on to the last gap below a node at a level.
-fn set_last<K, V, A: Handle>(node: &Node<K, V, A>, gap: &mut Path, level: usize)
+fn last_leaf_edge_at<K, V, A: Handle>(node: &Node<K, V, A>, gap: &mut Path, level: usize)
     requires level { level < length gap.old }
     requires levels { IsLevelled (length gap.old - level - 1) node.now }
     ensures { GoesOn (take level gap.old) gap.new node.now (length (pairs_of node.now)) }
@@ -208,12 +208,12 @@ fn set_last<K, V, A: Handle>(node: &Node<K, V, A>, gap: &mut Path, level: usize)
     let end = node.len();
     gap.set(level, end);
     if level + 1 < len {
-        set_last(node.child(end), gap, level + 1);
+        last_leaf_edge_at(node.child(end), gap, level + 1);
     }
 }
 
 // Goes on to the gap after the node's own pair that the gap's way leads to.
-fn set_after<K, V, A: Handle>(node: &Node<K, V, A>, gap: &mut Path, level: usize)
+fn next_leaf_edge_at<K, V, A: Handle>(node: &Node<K, V, A>, gap: &mut Path, level: usize)
     requires level { level < length gap.old }
     requires levels { IsLevelled (length gap.old - level - 1) node.now }
     requires own { slice_index gap.old level < length (own_pairs node.now) }
@@ -223,12 +223,12 @@ fn set_after<K, V, A: Handle>(node: &Node<K, V, A>, gap: &mut Path, level: usize
     let step = gap.step(level) + 1;
     gap.set(level, step);
     if level + 1 < len {
-        set_first(node.child(step), gap, level + 1);
+        first_leaf_edge_at(node.child(step), gap, level + 1);
     }
 }
 
-// Goes back to the gap before the node's own pair ahead of where the gap's way leads.
-fn set_before<K, V, A: Handle>(node: &Node<K, V, A>, gap: &mut Path, level: usize)
+// Goes back to the gap before the node's own pair before where the gap's way leads.
+fn next_back_leaf_edge_at<K, V, A: Handle>(node: &Node<K, V, A>, gap: &mut Path, level: usize)
     requires level { level < length gap.old }
     requires levels { IsLevelled (length gap.old - level - 1) node.now }
     requires own { (0 < slice_index gap.old level) × (slice_index gap.old level ≤ length (own_pairs node.now)) }
@@ -238,13 +238,13 @@ fn set_before<K, V, A: Handle>(node: &Node<K, V, A>, gap: &mut Path, level: usiz
     let step = gap.step(level) - 1;
     gap.set(level, step);
     if level + 1 < len {
-        set_last(node.child(step), gap, level + 1);
+        last_leaf_edge_at(node.child(step), gap, level + 1);
     }
 }
 
-// Goes on past the pair after a gap, and answers that pair, and the leaf of the gap after it. Where the node above the gap's leaf
+// Goes on over the pair after a gap, and answers that pair, and the leaf of the gap after it. Where the node above the gap's leaf
 // is known and has the pair, it has that leaf too; else the way is taken from the root, and the node above is known from then on.
-fn pass_next<'a, K, V, A: Handle>(
+fn next_unchecked<'a, K, V, A: Handle>(
     root: &'a Option<Node<K, V, A>>,
     above: &mut Option<&'a Node<K, V, A>>,
     gap: &mut Path,
@@ -268,13 +268,13 @@ fn pass_next<'a, K, V, A: Handle>(
             return (node.pair(place), node.child(place + 1));
         }
     }
-    pass_next_from_root(root, above, gap)
+    next_unchecked_from_root(root, above, gap)
 }
 
 // The same on the way from the root.
 #[inline(never)]
 #[tactic(auto, using(crate::proofs::Ways::levels_in, crate::proofs::Ways::same_root))]
-fn pass_next_from_root<'a, K, V, A: Handle>(
+fn next_unchecked_from_root<'a, K, V, A: Handle>(
     root: &'a Option<Node<K, V, A>>,
     above: &mut Option<&'a Node<K, V, A>>,
     gap: &mut Path,
@@ -292,15 +292,15 @@ fn pass_next_from_root<'a, K, V, A: Handle>(
     let node: &Node<K, V, A> = node;
     let (holder, level) = lowest_with_next(node, gap);
     let pair = holder.pair(gap.step(level));
-    set_after(holder, gap, level);
+    next_leaf_edge_at(holder, gap, level);
     let (parent, leaf) = leaf_of(node, gap);
     *above = parent;
     (pair, leaf)
 }
 
-// Goes back past the pair before a gap, and answers that pair, and the leaf of the gap before it. Where the node above the gap's leaf
+// Goes back over the pair before a gap, and answers that pair, and the leaf of the gap before it. Where the node above the gap's leaf
 // is known and has the pair, it has that leaf too; else the way is taken from the root, and the node above is known from then on.
-fn pass_previous<'a, K, V, A: Handle>(
+fn next_back_unchecked<'a, K, V, A: Handle>(
     root: &'a Option<Node<K, V, A>>,
     above: &mut Option<&'a Node<K, V, A>>,
     gap: &mut Path,
@@ -325,13 +325,13 @@ fn pass_previous<'a, K, V, A: Handle>(
             return (node.pair(place - 1), leaf);
         }
     }
-    pass_previous_from_root(root, above, gap)
+    next_back_unchecked_from_root(root, above, gap)
 }
 
 // The same on the way from the root.
 #[inline(never)]
 #[tactic(auto, using(crate::proofs::Ways::levels_in, crate::proofs::Ways::same_root))]
-fn pass_previous_from_root<'a, K, V, A: Handle>(
+fn next_back_unchecked_from_root<'a, K, V, A: Handle>(
     root: &'a Option<Node<K, V, A>>,
     above: &mut Option<&'a Node<K, V, A>>,
     gap: &mut Path,
@@ -349,7 +349,7 @@ fn pass_previous_from_root<'a, K, V, A: Handle>(
     let node: &Node<K, V, A> = node;
     let (holder, level) = lowest_with_previous(node, gap);
     let pair = holder.pair(gap.step(level) - 1);
-    set_before(holder, gap, level);
+    next_back_leaf_edge_at(holder, gap, level);
     let (parent, leaf) = leaf_of(node, gap);
     *above = parent;
     (pair, leaf)
@@ -368,7 +368,7 @@ pub struct Step<'a, K, V> {
 
 /// Goes on over a pair, and takes the run after it.
 #[tactic(auto, using(crate::proofs::Betweens::gap_fits, crate::proofs::Betweens::some_between, crate::proofs::Betweens::next_between, crate::proofs::Ways::above_beside))]
-pub fn step_first_run<'a, K, V, A: Handle>(
+pub fn next_run<'a, K, V, A: Handle>(
     root: &'a Option<Node<K, V, A>>,
     above: &mut Option<&'a Node<K, V, A>>,
     front: &mut Path,
@@ -384,14 +384,14 @@ pub fn step_first_run<'a, K, V, A: Handle>(
     ensures met { IsTrue result.has_met ↔ (between root.now front.new back.now ≡ []) }
     ensures all { IsFalse result.has_met → IsLeafEnd root.now front.new }
 {
-    let (pair, leaf) = pass_next(root, above, front);
+    let (pair, leaf) = next_unchecked(root, above, front);
     let (run, has_met) = take_first_of(root, leaf, front, back);
     Step { pair, run, has_met }
 }
 
 /// Goes back over a pair, and takes the run before it.
 #[tactic(auto, using(crate::proofs::Betweens::some_between, crate::proofs::Betweens::previous_between, crate::proofs::Ways::above_beside))]
-pub fn step_last_run<'a, K, V, A: Handle>(
+pub fn next_back_run<'a, K, V, A: Handle>(
     root: &'a Option<Node<K, V, A>>,
     above: &mut Option<&'a Node<K, V, A>>,
     front: &Path,
@@ -407,7 +407,7 @@ pub fn step_last_run<'a, K, V, A: Handle>(
     ensures met { IsTrue result.has_met ↔ (between root.now front.now back.new ≡ []) }
     ensures all { IsFalse result.has_met → IsLeafStart root.now back.new }
 {
-    let (pair, leaf) = pass_previous(root, above, back);
+    let (pair, leaf) = next_back_unchecked(root, above, back);
     let (run, has_met) = take_last_of(root, leaf, front, back);
     Step { pair, run, has_met }
 }

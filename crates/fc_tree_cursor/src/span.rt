@@ -12,9 +12,9 @@ ghost use Rattle.fc_tree_cursor.specs.Gap.{AreEndsIn, IsGapIn};
 ghost use Rattle.fc_tree_cursor.specs.Span.{between, before_back, left_between, IsEndIn, AreEndsSoughtIn};
 
 use crate::cuts::{start_of, stop_of};
-use crate::ends::{first_gap_in, last_gap_in, push_ends, push_start, push_stop};
-use crate::gaps::{push_first, push_last};
-use crate::run::{step_first_run, step_last_run, take_first_of};
+use crate::ends::{first_gap_in, last_gap_in, lower_bound_edge, push_ends, upper_bound_edge};
+use crate::gaps::{first_leaf_edge, last_leaf_edge};
+use crate::run::{next_back_run, next_run, take_first_of};
 use fc_base::{Handle, Query};
 use fc_tree_node::node::Node;
 use fc_tree_node::path::Path;
@@ -58,9 +58,9 @@ impl<'a, K, V, A: Handle> Span<'a, K, V, A> {
             return Span::none(root);
         };
         let mut front = Path::new();
-        let first = push_first(node, &mut front);
+        let first = first_leaf_edge(node, &mut front);
         let mut back = Path::new();
-        push_last(node, &mut back);
+        last_leaf_edge(node, &mut back);
         Span::from_front(root, first, front, back)
     }
 
@@ -152,7 +152,7 @@ impl<'a, K, V, A: Handle> Span<'a, K, V, A> {
                 &mut self.front,
                 &mut self.back,
             );
-            let step = step_first_run(
+            let step = next_run(
                 self.root,
                 &mut self.above_front,
                 &mut self.front,
@@ -200,7 +200,7 @@ impl<'a, K, V, A: Handle> Span<'a, K, V, A> {
                 &mut self.front,
                 &mut self.back,
             );
-            let step = step_last_run(self.root, &mut self.above_back, &self.front, &mut self.back);
+            let step = next_back_run(self.root, &mut self.above_back, &self.front, &mut self.back);
             self.tail = step.run;
             self.has_met = step.has_met;
             return step.pair;
@@ -265,7 +265,7 @@ struct Runs<'a, K, V> {
 }
 
 // Fills the paths with the gaps at the bounds of a range, and takes the run of one end: the back's where only it is bounded. The span is
-// made once, behind this call, since a struct of its size is copied wherever two of it could be the answer. For the same reason it is
+// made once, after this call, since a struct of its size is copied wherever two of it could be the answer. For the same reason it is
 // not inlined: the paths are then filled where the span is to be.
 #[tactic(auto, using(crate::proofs::Sought::ends_found, crate::proofs::Sought::met_found, crate::proofs::Sought::back_of_gap, crate::proofs::Bounds::from_nothing, crate::proofs::Turns::range_in))]
 #[inline(never)]
@@ -293,7 +293,7 @@ fn start_within<'a, K: Ord, V, Q: Query<K>, A: Handle>(
     let mut run: &'a [(K, V)] = &[];
     let mut has_met = true;
     if let Bound::Unbounded = hi {
-        push_start(node, &start_of(lo), front, &mut run, &mut has_met);
+        lower_bound_edge(node, &start_of(lo), front, &mut run, &mut has_met);
         return Runs {
             head: run,
             tail: &[],
@@ -301,7 +301,7 @@ fn start_within<'a, K: Ord, V, Q: Query<K>, A: Handle>(
         };
     }
     if let Bound::Unbounded = lo {
-        push_stop(node, &stop_of(hi), back, &mut run, &mut has_met);
+        upper_bound_edge(node, &stop_of(hi), back, &mut run, &mut has_met);
         return Runs {
             head: &[],
             tail: run,

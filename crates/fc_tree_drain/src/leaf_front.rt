@@ -1,6 +1,6 @@
 //! The front of a tree that is taken apart, which hands out each leaf that is used up, to be filled anew.
 ghost use Rattle.std.specs.Prelude.{◌≡◌, ◌+◌, ◌<◌, List, ◌∷◌, ◌↔◌, length, IsTrue};
-ghost use Rattle.fc_tree_node.specs.Node.{IsBlankLeaf};
+ghost use Rattle.fc_tree_node.specs.Node.{IsEmptyLeaf};
 ghost use Rattle.fc_tree_node.specs.Tree.{entries, IsSoundMap};
 ghost use Rattle.fc_tree_drain.specs.LeafFront.{IsOpenLeaf};
 
@@ -88,7 +88,7 @@ impl<K: Drop, V: Drop, A: Handle> LeafFront<K, V, A> {
         requires used_up { self.old.in_leaf ≡ 0 }
         requires some { 0 < length self.old.pairs }
         ensures pairs { self.old.pairs ≡ result.0 ∷ self.new.pairs }
-        ensures blank { IsBlankLeaf result.1 }
+        ensures empty { IsEmptyLeaf result.1 }
         ensures leaf { IsOpenLeaf self.new }
     {
         let Some(used) = self.run.take() else {

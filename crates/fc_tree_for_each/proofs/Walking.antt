@@ -1,263 +1,243 @@
--- A walk from one gap of a tree to another: where it stands in a node.
-use Rattle.std.proofs.Common.{◌≡◌, ℕ, zero, suc, ◌+◌, ◌<◌, ◌≤◌, List, [], ◌∷◌, ◌++◌, length, drop, get_or, refl, sym, ap, subst, ◌∙◌, append-nil}
+-- A walk from one gap of a tree to another: where it stands in a node. Paths and places are those of the tree without its values.
+use Rattle.std.proofs.Common.{◌≡◌, ℕ, zero, suc, ◌+◌, ◌-◌, ◌<◌, ◌≤◌, List, [], ◌∷◌, ◌++◌, length, drop, get_or, Some, refl, sym, ap, subst, ◌∙◌}
 use Rattle.std.proofs.Common.{arith}
-use Rattle.std.proofs.lemmas.List.{length-append, get_or_read}
-use Rattle.fc_base.specs.Sizes.{min_len}
+use Rattle.std.proofs.lemmas.List.{length-append, length-drop, get_or_read}
 use Rattle.fc_tree_node.specs.declared.node.Node.{Node}
-use Rattle.fc_tree_node.specs.Node.{own_pairs, children_of, child_at, pairs_of, IsLevelled, IsLeaf}
+use Rattle.fc_tree_node.specs.Node.{own_pairs, children_of, child_at, pairs_of, IsLevelled, IsLeaf, IsInner}
 use Rattle.fc_tree_node.specs.Path.{before_gap, after_gap}
-use Rattle.fc_tree_node.specs.Place.{before_child, after_child, before_own}
-use Rattle.fc_tree_search.specs.Written.{with_value, with_child}
+use Rattle.fc_tree_node.specs.Place.{before_child, after_child, before_own, after_own}
 use Rattle.fc_tree_node.specs.Measures.{nodes_of}
 use Rattle.fc_tree_node.proofs.MeasureFacts.{fewer_nodes}
-use Rattle.fc_tree_node.proofs.Formed.{leaf_or_inner, one_height}
-use Rattle.fc_tree_node.proofs.Pairs.{IsBelow, child_below}
-use Rattle.fc_tree_node.proofs.Lent.{replaced, replaced_levels}
-use Rattle.fc_tree_node.proofs.Gaps.{inner_gap, leaf_gap}
-use Rattle.fc_tree_for_each.specs.Shape.{IsSameAlong}
-use Rattle.fc_tree_for_each.specs.Visits.{IsVisited, IsEnd}
-use Rattle.fc_tree_for_each.proofs.Turns.{Grown, grown_start, grown_end}
-use Rattle.fc_tree_for_each.proofs.Parts.{in_order, drop_next, before_leaf}
-use Rattle.fc_tree_for_each.proofs.Steps.{IsFirstStep, from_step, to_step, after_within, before_within, IsKept, kept_all, kept_child, kept_rest}
-use Rattle.fc_tree_for_each.proofs.Steps.{own_step, child_step, child_shape, child_end}
+use Rattle.fc_tree_node.proofs.Pairs.{child_below, leaf_pairs}
+use Rattle.fc_tree_node.proofs.Lists.{length_take}
+use Rattle.fc_tree_node.proofs.Lent.{replaced}
+use Rattle.fc_tree_node.proofs.Formed.{leaf_or_inner}
+use Rattle.fc_tree_cursor.proofs.Outer.{leaf_before}
+use Rattle.fc_tree_node.proofs.Gaps.{item_there, inner_gap, own_pair, gap_pairs}
+use Rattle.fc_tree_search.specs.Written.{with_value, with_child, written}
+use Rattle.fc_tree_search.proofs.WrittenPairs.{written_pairs, bare_value, bare_set}
+use Rattle.fc_tree_cursor.proofs.GapFacts.{inner_length, inner_before, next_before, leaf_before_own}
+use Rattle.fc_tree_node.specs.Bare.{bare}
+use Rattle.fc_tree_cursor.specs.Ends.{AreInOrder, IsEnd}
+use Rattle.fc_tree_cursor.proofs.PathEnds.{order_onward, end_inside, ends_order, end_below, front_parts, back_parts, leaf_front, leaf_back}
+use Rattle.fc_tree_node.proofs.Bare.{bare_size, bare_many, bare_child, bare_before, bare_count, levels_back, same_levels, same_size}
+use Rattle.fc_tree_for_each.specs.Visits.{IsVisitedAt}
+use Rattle.fc_tree_for_each.proofs.Turns.{at_first, at_one, at_part, at_join}
 
-none : (p : List ℕ) → (0 < length p → length p ≡ 0) → p ≡ []
-none [] h = refl
-none (x ∷ p) h = let e = h (omega arith) in absurd (omega arith)
+module _ {K V Z : Type 0} where
+  -- the ends of a walk in a node
+  abbrev pub AreEnds : Node K V Z → List ℕ → List ℕ → Type 0
+  AreEnds n from to = (h : ℕ) × IsLevelled h (bare n) × IsEnd h from (bare n) × IsEnd h to (bare n)
+
+  -- what an end has on either side is part of the pairs
+  within : (h : ℕ) (n : Node K V Z) (path : List ℕ) → IsLevelled h n → IsEnd h path n
+      → (length (before_gap path n) ≤ length (pairs_of n)) × (length (after_gap path n) ≤ length (pairs_of n))
+  within h n [] l e = (omega arith, omega arith)
+  within h n (i ∷ path) l e =
+      let g = ap length (gap_pairs (i ∷ path) h n l (e.1 (omega arith)) e.0) ∙ length-append (before_gap (i ∷ path) n) (after_gap (i ∷ path) n) in
+      (omega arith, omega arith)
 
 module _ {F K V Z : Type 0} (R : F → K × V → F → V → Type 0) where
-  -- before the child at i, from an end below it on
-  pub record IsAt (old now : Node K V Z) (first f : F) (from : List ℕ) (i end : ℕ) (rest to : List ℕ) : Type 0 where
-    pub le : i ≤ end
-    pub kept : IsKept old now i i
-    pub step : (h : ℕ) → IsLevelled h old → IsFirstStep h old i rest
-    pub order : i ≡ end → length (before_gap rest (child_at old i)) + length (after_gap to (child_at old i)) ≤ length (pairs_of (child_at old i))
-    pub grown : Grown R first f (before_gap from old) (before_child old i ++ before_gap rest (child_at old i))
-        (before_child now i ++ before_gap rest (child_at old i))
-
-  -- the ends of a walk in a node
-  pub record AreSteps (h : ℕ) (n : Node K V Z) (from to : List ℕ) (start end : ℕ) (rest back : List ℕ) : Type 0 where
-    pub first : IsFirstStep h n start rest
-    pub last : IsFirstStep h n end back
-    pub lead : before_gap from n ≡ before_child n start ++ before_gap rest (child_at n start)
-    pub tail : after_gap to n ≡ after_gap back (child_at n end) ++ after_child n end
-    pub le : start ≤ end
-
-  steps_of : (h : ℕ) (n : Node K V Z) (from to : List ℕ) (start end len : ℕ) (rest back : List ℕ) → IsLevelled h n → IsEnd h from n → IsEnd h to n
-      → length (before_gap from n) + length (after_gap to n) ≤ length (pairs_of n) → start ≡ get_or from 0 0 → rest ≡ drop 1 from → end ≡ get_or to 0 len
-      → back ≡ drop 1 to → len ≡ length (own_pairs n) → AreSteps h n from to start end rest back
-  steps_of h n from to start end len rest back l a b o s r e k m =
-      let p = from_step h n from a in
-      let q = to_step h n to b in
-      let ee : end ≡ get_or to 0 (length (own_pairs n)) = e ∙ ap (get_or to 0) m in
-      let first = subst (λ x. IsFirstStep h n x rest) (sym s) (subst (IsFirstStep h n (get_or from 0 0)) (sym r) p.0) in
-      let lead = subst (λ x. before_gap from n ≡ before_child n x ++ before_gap rest (child_at n x)) (sym s)
-      (subst (λ x. before_gap from n ≡ before_child n (get_or from 0 0) ++ before_gap x (child_at n (get_or from 0 0))) (sym r) p.1) in
-      let last = subst (λ x. IsFirstStep h n x back) (sym ee) (subst (IsFirstStep h n (get_or to 0 (length (own_pairs n)))) (sym k) q.0) in
-      let tail = subst (λ x. after_gap to n ≡ after_gap back (child_at n x) ++ after_child n x) (sym ee)
-      (subst (λ x. after_gap to n ≡ after_gap x (child_at n (get_or to 0 (length (own_pairs n)))) ++ after_child n (get_or to 0 (length (own_pairs n))))
-      (sym k) q.1) in
-      let f = length-append (before_child n start) (before_gap rest (child_at n start)) in
-      let g = length-append (after_gap back (child_at n end)) (after_child n end) in
-      let lp = ap length lead in
-      let lq = ap length tail in
-      record { first = first; last = last; lead = lead; tail = tail; le = in_order h n start end l first.le (omega arith) }
-
-  -- of a leaf, and of an inner node
-  abbrev pub AreEnds : Node K V Z → List ℕ → List ℕ → Type 0
-  AreEnds n from to = (h : ℕ) × IsLevelled h n × IsEnd h from n × IsEnd h to n
-
-  pub leaf_steps : (n : Node K V Z) (from to : List ℕ) (start end len : ℕ) (rest back : List ℕ) → AreEnds n from to → IsLeaf n
-      → length (before_gap from n) + length (after_gap to n) ≤ length (pairs_of n) → start ≡ get_or from 0 0 → rest ≡ drop 1 from → end ≡ get_or to 0 len
-      → back ≡ drop 1 to → len ≡ length (own_pairs n) → AreSteps 0 n from to start end rest back
-  leaf_steps n from to start end len rest back (zero, l, a, b) leaf o s r e k m = steps_of 0 n from to start end len rest back l a b o s r e k m
-  leaf_steps n from to start end len rest back (suc h, l, a, b) leaf o s r e k m = absurd (leaf_or_inner n leaf l.1)
-
-  pub record AreInner (n : Node K V Z) (from to : List ℕ) (start end : ℕ) (rest back : List ℕ) : Type 0 where
+  -- before the child at i, from an end below it on; all that is said of places is said of one tree, which stays
+  pub record IsAt (old now : Node K V Z) (first f : F) (from to : List ℕ) (i end : ℕ) (rest back : List ℕ) : Type 0 where
     pub h : ℕ
-    pub levels : IsLevelled (suc h) n
-    pub steps : AreSteps (suc h) n from to start end rest back
+    pub levels : IsLevelled (suc h) (bare old)
+    pub le : i ≤ end
+    pub last : end ≤ length (own_pairs (bare old))
+    pub start : IsEnd h rest (child_at (bare old) i)
+    pub stop : IsEnd h back (child_at (bare old) end)
+    pub order : i ≡ end → AreInOrder rest back
+    pub tail : length (after_gap to (bare old)) ≡ length (after_gap back (child_at (bare old) end)) + length (after_child (bare old) end)
+    pub same : bare now ≡ bare old
+    pub visited : IsVisitedAt R first f (length (before_gap from (bare old))) (length (before_gap (i ∷ rest) (bare old))) (pairs_of old) (pairs_of now)
 
-  pub inner_steps : (n : Node K V Z) (from to : List ℕ) (start end len : ℕ) (rest back : List ℕ) → AreEnds n from to → (IsLeaf n → ⊥)
-      → length (before_gap from n) + length (after_gap to n) ≤ length (pairs_of n) → start ≡ get_or from 0 0 → rest ≡ drop 1 from → end ≡ get_or to 0 len
-      → back ≡ drop 1 to → len ≡ length (own_pairs n) → AreInner n from to start end rest back
-  inner_steps n from to start end len rest back (zero, l, a, b) leaf o s r e k m = absurd (leaf l.1)
-  inner_steps n from to start end len rest back (suc h, l, a, b) leaf o s r e k m =
-      record { h = h; levels = l; steps = steps_of (suc h) n from to start end len rest back l a b o s r e k m }
+  at_start : (h : ℕ) (n : Node K V Z) (f : F) (from to : List ℕ) → IsLevelled (suc h) (bare n) → IsEnd (suc h) from (bare n) → IsEnd (suc h) to (bare n)
+      → AreInOrder from to → IsAt n n f f from to (get_or from 0 0) (get_or to 0 (length (own_pairs (bare n)))) (drop 1 from) (drop 1 to)
+  at_start h n f from to l a b o =
+      let B = bare n in
+      let end = get_or to 0 (length (own_pairs B)) in
+      record {
+        h = h;
+        levels = l;
+        le = ends_order (suc h) from to B a o;
+        last = end_inside (suc h) to B (length (own_pairs B)) b (omega arith);
+        start = end_below h from B 0 a;
+        stop = end_below h to B (length (own_pairs B)) b;
+        order = order_onward from to (length (own_pairs B)) o;
+        tail = ap length (sym (back_parts to B end refl)) ∙ length-append (after_gap (drop 1 to) (child_at B end)) (after_child B end);
+        same = refl;
+        visited = subst (λ k. IsVisitedAt R f f (length (before_gap from B)) k (pairs_of n) (pairs_of n)) (ap length (front_parts from B))
+            (at_first R f (length (before_gap from B)) (pairs_of n) (omega (arith, (within (suc h) B from l a).0, bare_count n)));
+      }
 
-  -- a leaf's ends have one step
-  pub leaf_front : (n : Node K V Z) (from to : List ℕ) (start end : ℕ) (rest back : List ℕ) → AreSteps 0 n from to start end rest back
-      → before_gap from n ≡ before_child n start
-  leaf_front n from to start end rest back s = s.lead ∙ ap (λ p. before_child n start ++ before_gap p (child_at n start)) (none rest s.first.long)
-      ∙ append-nil (before_child n start)
+  pub begun : (n : Node K V Z) (f : F) (from to : List ℕ) (start end len : ℕ) (rest back : List ℕ) → AreEnds n from to → (IsLeaf n → ⊥) → AreInOrder from to
+      → start ≡ get_or from 0 0 → rest ≡ drop 1 from → end ≡ get_or to 0 len → back ≡ drop 1 to → len ≡ length (own_pairs n)
+      → IsAt n n f f from to start end rest back
+  begun n f from to start end len rest back (zero, l, a, b) leaf o s r e k m = absurd (leaf (levels_back zero n l).1)
+  begun n f from to start end len rest back (suc h, l, a, b) leaf o s r e k m = rw (s, r, e, k, m, sym (bare_size n)) (at_start h n f from to l a b o)
 
-  pub leaf_back : (n : Node K V Z) (from to : List ℕ) (start end : ℕ) (rest back : List ℕ) → AreSteps 0 n from to start end rest back
-      → after_gap to n ≡ after_child n end
-  leaf_back n from to start end rest back s = s.tail ∙ ap (λ p. after_gap p (child_at n end) ++ after_child n end) (none back s.last.long)
-
-  -- an end below a child
-  pub end_below : (h : ℕ) (n : Node K V Z) (i : ℕ) (rest : List ℕ) → IsFirstStep (suc h) n i rest → IsEnd h rest (child_at n i)
-  end_below h n i rest s = (s.path, λ q. let e = s.long q in omega arith)
-
-  pub at_start : (h : ℕ) (n : Node K V Z) (f : F) (from to : List ℕ) (start end : ℕ) (rest back : List ℕ) → IsLevelled (suc h) n
-      → length (before_gap from n) + length (after_gap to n) ≤ length (pairs_of n) → AreSteps (suc h) n from to start end rest back
-      → IsAt n n f f from start end rest back
-  at_start h n f from to start end rest back l o s = record {
-    le = s.le;
-    kept = kept_all n start start;
-    step = λ j q. subst (λ x. IsFirstStep x n start rest) (one_height (suc h) j n l q) s.first;
-    order = λ e.
-        let a = ap length s.lead in
-        let b = ap length s.tail in
-        let p = length-append (before_child n start) (before_gap rest (child_at n start)) in
-        let q = length-append (after_gap back (child_at n end)) (after_child n end) in
-        let c = ap length (inner_gap n start l.1 s.first.le) in
-        let d = length-append (before_child n start) (pairs_of (child_at n start) ++ after_child n start) in
-        let k = length-append (pairs_of (child_at n start)) (after_child n start) in
-        let x : length (after_gap back (child_at n end)) ≡ length (after_gap back (child_at n start)) =
-        ap (λ j. length (after_gap back (child_at n j))) (sym e) in
-        let y : length (after_child n end) ≡ length (after_child n start) = ap (λ j. length (after_child n j)) (sym e) in
-        omega arith;
-    grown = grown_start R f (before_gap from n) (before_child n start ++ before_gap rest (child_at n start))
-        (before_child n start ++ before_gap rest (child_at n start)) (sym s.lead) (sym s.lead);
-  }
-
-  -- the child, which is as it was
-  pub record IsReached (h : ℕ) (old c : Node K V Z) (i : ℕ) (rest : List ℕ) : Type 0 where
-    pub is : c ≡ child_at old i
-    pub levels : IsLevelled h c
-    pub some : min_len ≤ length (own_pairs c)
-    pub from : IsEnd h rest c
-    pub within : length (before_gap rest c) ≤ length (pairs_of c)
-
-  pub reached : (h : ℕ) (old now c : Node K V Z) (first f : F) (from : List ℕ) (i end : ℕ) (rest to : List ℕ) → IsLevelled (suc h) old
-      → end ≤ length (own_pairs old) → IsAt old now first f from i end rest to → c ≡ child_at now i → IsReached h old c i rest
-  reached h old now c first f from i end rest to l le at e =
-      let step = at.step (suc h) l in
-      let is = e ∙ kept_child h old now i l at.kept step.le in
-      let b = child_below h old i l step.le in
-      let w = end_below h old i rest step in
-      subst (λ x. IsReached h old x i rest) (sym is) (record {
-        is = refl;
-        levels = b.1;
-        some = b.0;
-        from = w;
-        within =
-            before_within h (child_at old i) rest b.1 w;
-      })
-
-  -- the node of a walk has a child at the place
-  pub child_room : {old now : Node K V Z} {first f : F} {from to front back rest : List ℕ} {start i end : ℕ} (s : AreInner old from to start end front back)
-      → IsAt old now first f from i end rest back → i < length (children_of now)
-  child_room {now = now} s at =
-      let many : length (children_of now) ≡ length (own_pairs now) + 1 = (at.kept.levels (suc s.h) s.levels).1 in
-      omega arith
-
-  -- the child at the place of a walk, lent out of the node's list
+  -- the child at the place, lent out of the node's list
   pub record IsLent (h : ℕ) (old now c : Node K V Z) (i : ℕ) (rest : List ℕ) : Type 0 where
+    pub inner : IsInner now
     pub is : c ≡ child_at now i
-    pub child : IsReached h old c i rest
-    pub fewer : nodes_of c < nodes_of old
+    pub bare_is : bare c ≡ child_at (bare old) i
+    pub levels : IsLevelled h (bare c)
+    pub start : IsEnd h rest (bare c)
+    pub fewer : nodes_of (bare c) < nodes_of (bare old)
 
-  pub lent : {old now c : Node K V Z} {first f : F} {from to front back rest : List ℕ} {start i end : ℕ} (s : AreInner old from to start end front back)
-      → IsAt old now first f from i end rest back → c ≡ get_or (children_of now) i c → IsLent s.h old now c i rest
-  lent {old = old} {now = now} {c = c} {first = first} {f = f} {from = from} {back = back} {rest = rest} {i = i} {end = end} s at p =
-      let is = get_or_read (children_of now) i c (child_room s at) p now in
-      let r = reached s.h old now c first f from i end rest back s.levels s.steps.last.le at is in
-      record { is = is; child = r; fewer = fewer_nodes old c i (omega arith) r.is }
+  pub child_room : {old now : Node K V Z} {first f : F} {from to rest back : List ℕ} {i end : ℕ} → IsAt old now first f from to i end rest back
+      → (i < length (children_of now)) × IsInner now × (length (own_pairs now) ≡ length (own_pairs (bare old)))
+  child_room {old = old} {now = now} at =
+      let a = bare_size now in
+      let b = bare_many now in
+      let s : length (own_pairs (bare now)) ≡ length (own_pairs (bare old)) = ap (λ x. length (own_pairs x)) at.same in
+      let m : length (children_of (bare now)) ≡ length (children_of (bare old)) = ap (λ x. length (children_of x)) at.same in
+      (omega (arith, at.levels.1, at.le, at.last), omega (arith, at.levels.1), omega arith)
 
-  -- it comes back as sound as it was
-  pub below_back : {h : ℕ} {old now c c' : Node K V Z} {i : ℕ} {rest : List ℕ} → IsLent h old now c i rest → length (own_pairs c') ≡ length (own_pairs c)
-      → ((j : ℕ) → IsLevelled j c → IsLevelled j c') → IsBelow h c'
-  below_back {h = h} l size levels = (omega arith, levels h l.child.levels)
-
-  -- at the last child
-  pub at_last : {old now : Node K V Z} {first f : F} {from to rest : List ℕ} {i end : ℕ} → IsAt old now first f from i end rest to → end ≤ i
-      → IsAt old now first f from end end rest to
-  at_last {old = old} {now = now} {first = first} {f = f} {from = from} {to = to} {rest = rest} {i = i} {end = end} at ge =
-      let e : i ≡ end = omega arith in
-      subst (λ j. IsAt old now first f from j end rest to) e at
-
-  -- past the child and the pair after it
-  pub at_next : (h : ℕ) (old now c c' : Node K V Z) (first f g k : F) (from : List ℕ) (i end : ℕ) (rest to : List ℕ) (e : K × V) (w : V)
-      → IsLevelled (suc h) old → end ≤ length (own_pairs old) → IsFirstStep (suc h) old end to → IsAt old now first f from i end rest to → i < end
-      → c ≡ child_at now i → IsVisited R f g (before_gap rest c) [] (pairs_of c) (pairs_of c') → IsBelow h c' → ((p : List ℕ) → IsSameAlong p c c') → R g e k w
-      → e ≡ get_or (own_pairs (with_child now i c')) i e → IsAt old (with_value (with_child now i c') i w) first k from (suc i) end [] to
-  at_next h old now c c' first f g k from i end rest to e w l le last at lt is v b shape r p =
-      let s = child_step R h old now c c' i rest first f g (before_gap from old) l at.kept (omega arith) at.grown is v b shape in
-      let t = own_step R (suc h) old (with_child now i c') i e w first g k (before_gap from old) l s.0 (omega arith) s.1 r p in
+  pub lent : {old now c : Node K V Z} {first f : F} {from to rest back : List ℕ} {i end : ℕ} (at : IsAt old now first f from to i end rest back)
+      → c ≡ get_or (children_of now) i c → IsLent at.h old now c i rest
+  lent {old = old} {now = now} {c = c} {i = i} at p =
+      let r = child_room at in
+      let is = get_or_read (children_of now) i c r.0 p now in
+      let b : bare c ≡ child_at (bare old) i = ap bare is ∙ sym (bare_child now i) ∙ ap (λ x. child_at x i) at.same in
+      let below = child_below at.h (bare old) i at.levels (omega (arith, at.le, at.last)) in
       record {
+        inner = r.1;
+        is = is;
+        bare_is = b;
+        levels = subst (IsLevelled at.h) (sym b) below.1;
+        start = subst (IsEnd at.h _) (sym b) at.start;
+        fewer = fewer_nodes (bare old) (bare c) i (omega (arith, at.levels.1, at.le, at.last)) b;
+      }
+
+  -- past a part of the child
+  child_step : (c' : Node K V Z) {old now c : Node K V Z} {first f g : F} {from to rest back : List ℕ} {i end : ℕ}
+      (at : IsAt old now first f from to i end rest back) → IsLent at.h old now c i rest → (b : ℕ)
+      → IsVisitedAt R f g (length (before_gap rest (bare c))) b (pairs_of c) (pairs_of c') → bare c' ≡ bare c
+      → (bare (with_child now i c') ≡ bare old)
+      × IsVisitedAt R first g (length (before_gap from (bare old))) (length (before_child (bare old) i) + b) (pairs_of old) (pairs_of (with_child now i c'))
+  child_step c' {old = old} {now = now} {c = c} {first = first} {f = f} {g = g} {from = from} {rest = rest} {i = i} at x b v same =
+      let le : i ≤ length (own_pairs now) = omega (arith, (child_room at).2, at.le, at.last) in
+      let lead : length (before_child (bare old) i) ≡ length (before_child now i) = ap (λ t. length (before_child t i)) (sym at.same) ∙ bare_before now i in
+      let here = ap (λ t. length (before_gap rest t)) x.bare_is in
+      let all = length-append (before_child (bare old) i) (before_gap rest (child_at (bare old) i)) in (
+        bare_set now i c' (same ∙ ap bare x.is) ∙ at.same,
+        at_join R first f g (length (before_gap from (bare old))) (length (before_gap (i ∷ rest) (bare old))) (length (before_child (bare old) i) + b)
+            (pairs_of old) (pairs_of now) (pairs_of (with_child now i c')) at.visited
+            (at_part R (before_child now i) (after_child now i) f g (length (before_gap rest (bare c))) b _ _ (pairs_of c) (pairs_of c') _ _ v
+            (inner_gap now i x.inner le ∙ ap (λ d. before_child now i ++ (pairs_of d ++ after_child now i)) (sym x.is))
+            ((replaced now i c').pairs x.inner le) (omega (arith, all, here, lead)) (omega (arith, lead))),
+      )
+
+  -- a node's own pair
+  pub own_step : (h : ℕ) (n : Node K V Z) (i : ℕ) (e : K × V) (w : V) (f g : F) → IsLevelled h n → i < length (own_pairs n) → R f e g w
+      → e ≡ get_or (own_pairs n) i e
+      → IsVisitedAt R f g (length (before_own n i)) (length (before_own n i) + 1) (pairs_of n) (pairs_of (with_value n i w))
+  unfolding written
+  own_step h n i e w f g l lt r p =
+      let there = item_there (own_pairs n) i lt in
+      at_one R e f g w (before_own n i) (after_own n i) (pairs_of n) (pairs_of (with_value n i w)) (length (before_own n i)) r
+      (own_pair h n i e l lt ∙ ap (λ x. before_own n i ++ x ∷ after_own n i) (sym p))
+      (written_pairs (i ∷ []) h n e w l lt (there.2 ∙ ap Some (sym (there.1 e) ∙ sym p))) refl
+
+  -- over the child and the pair after it
+  pub at_next : (c' : Node K V Z) {old now c : Node K V Z} {first f g k : F} {from to rest back : List ℕ} {i end : ℕ} {e : K × V} {w : V}
+      → (at : IsAt old now first f from to i end rest back) → i < end → IsLent at.h old now c i rest
+      → IsVisitedAt R f g (length (before_gap rest (bare c))) (length (pairs_of (bare c)) - 0) (pairs_of c) (pairs_of c') → bare c' ≡ bare c → R g e k w
+      → e ≡ get_or (own_pairs (with_child now i c')) i e → IsAt old (with_value (with_child now i c') i w) first k from to (i + 1) end [] back
+  at_next c' {old = old} {now = now} {c = c} {first = first} {g = g} {k = k} {from = from} {i = i} {e = e} {w = w} at lt x v same r p =
+      let B = bare old in
+      let m = with_child now i c' in
+      let s = child_step c' at x _ v same in
+      let l = levels_back (suc at.h) m (subst (IsLevelled (suc at.h)) (sym s.0) at.levels) in
+      let size : length (own_pairs m) ≡ length (own_pairs B) = sym (bare_size m) ∙ ap (λ t. length (own_pairs t)) s.0 in
+      let inside : i < length (own_pairs B) = omega (arith, at.last) in
+      let here = ap (λ t. length (pairs_of t)) x.bare_is in
+      let place = inner_before at.h m i l (omega arith) in
+      let lead : length (before_child m i) ≡ length (before_child B i) = sym (bare_before m i) ∙ ap (λ t. length (before_child t i)) s.0 in
+      let child : length (pairs_of (child_at m i)) ≡ length (pairs_of (child_at B i)) =
+      sym (bare_count (child_at m i)) ∙ ap (λ t. length (pairs_of t)) (sym (bare_child m i) ∙ ap (λ t. child_at t i) s.0) in
+      let before = next_before (suc at.h) B i at.levels inside in
+      let own = inner_before at.h B i at.levels inside in
+      let none = length-append (before_child B (i + 1)) [] in
+      let t : IsVisitedAt R first g (length (before_gap from B)) (length (before_own m i)) (pairs_of old) (pairs_of m) =
+      subst (λ j. IsVisitedAt R first g (length (before_gap from B)) j (pairs_of old) (pairs_of m)) (omega arith) s.1 in
+      record {
+        h = at.h;
+        levels = at.levels;
         le = omega arith;
-        kept = t.0;
-        step = λ j q. record { le = omega arith; path = tt; long = λ z. absurd (omega arith) };
-        order = λ z.
-            let m = end_below h old end to last in
-            let a = after_within h (child_at old end) to (child_below h old end l le).1 m in
-            let x : length (after_gap to (child_at old (suc i))) ≡ length (after_gap to (child_at old end)) =
-            ap (λ j. length (after_gap to (child_at old j))) z in
-            let y : length (pairs_of (child_at old (suc i))) ≡ length (pairs_of (child_at old end)) = ap (λ j. length (pairs_of (child_at old j))) z in
-            omega arith;
-        grown = subst (λ zs. Grown R first k (before_gap from old) zs (before_child (with_value (with_child now i c') i w) (suc i) ++ []))
-            (sym (append-nil (before_child old (suc i))))
-            (subst (λ zs. Grown R first k (before_gap from old) (before_child old (suc i)) zs)
-            (sym (append-nil (before_child (with_value (with_child now i c') i w) (suc i)))) t.1);
+        last = at.last;
+        start = (tt, λ q. absurd (omega arith));
+        stop = at.stop;
+        order = λ q. tt;
+        tail = at.tail;
+        same = bare_value m i w ∙ s.0;
+        visited = subst (λ j. IsVisitedAt R first k (length (before_gap from B)) j (pairs_of old) (pairs_of (with_value m i w))) (omega arith)
+            (at_join R first g k (length (before_gap from B)) (length (before_own m i)) (length (before_own m i) + 1) (pairs_of old) (pairs_of m)
+            (pairs_of (with_value m i w)) t (own_step (suc at.h) m i e w g k l (omega arith) r p));
       }
 
-  -- past the last child
-  pub at_end : (h : ℕ) (old now c c' : Node K V Z) (first f g : F) (from to : List ℕ) (start i end : ℕ) (front rest back : List ℕ) → IsLevelled (suc h) old
-      → AreSteps (suc h) old from to start end front back → IsAt old now first f from i end rest back → i ≡ end
-      → c ≡ child_at now i → IsVisited R f g (before_gap rest c) (after_gap back c) (pairs_of c) (pairs_of c') → IsBelow h c'
-      → IsVisited R first g (before_gap from old) (after_gap to old) (pairs_of old) (pairs_of (with_child now i c'))
-  at_end h old now c c' first f g from to start i end front rest back l s at e is v b =
-      let t = child_end R h old now c c' i rest back first f g (before_gap from old) l at.kept (at.step (suc h) l).le at.grown is v b in
-      subst (λ zs. IsVisited R first g (before_gap from old) zs (pairs_of old) (pairs_of (with_child now i c')))
-      (subst (λ j. after_gap back (child_at old j) ++ after_child old j ≡ after_gap to old) (sym e) (sym s.tail)) t
+  -- over the last child
+  pub at_end : (c' : Node K V Z) {old now c : Node K V Z} {first f g : F} {from to rest back : List ℕ} {i end : ℕ}
+      (at : IsAt old now first f from to i end rest back) → i ≡ end → IsLent at.h old now c i rest
+      → IsVisitedAt R f g (length (before_gap rest (bare c))) (length (pairs_of (bare c)) - length (after_gap back (bare c))) (pairs_of c) (pairs_of c')
+      → bare c' ≡ bare c
+      → (bare (with_child now i c') ≡ bare old) × IsVisitedAt R first g (length (before_gap from (bare old)))
+      (length (pairs_of (bare old)) - length (after_gap to (bare old))) (pairs_of old) (pairs_of (with_child now i c'))
+  at_end c' {old = old} {now = now} {c = c} {first = first} {g = g} {from = from} {to = to} {back = back} {i = i} {end = end} at e x v same =
+      let s = child_step c' at x _ v same in
+      let here = ap (λ t. length (pairs_of t)) x.bare_is in
+      let left = ap (λ t. length (after_gap back t)) x.bare_is in
+      let tail = subst (λ j. length (after_gap to (bare old)) ≡ length (after_gap back (child_at (bare old) j)) + length (after_child (bare old) j)) (sym e)
+      at.tail in
+      let all = inner_length at.h (bare old) i at.levels (omega (arith, at.last)) in
+      let b = child_below at.h (bare old) i at.levels (omega (arith, at.last)) in
+      let inside = within at.h (child_at (bare old) i) back b.1 (subst (λ j. IsEnd at.h back (child_at (bare old) j)) (sym e) at.stop) in
+      (s.0, subst (λ j. IsVisitedAt R first g (length (before_gap from (bare old))) j (pairs_of old) (pairs_of (with_child now i c'))) (omega arith) s.1)
 
-  -- the walk is over once the last child is back, as c'
-  pub record IsOver (old new : Node K V Z) (first g : F) (from to : List ℕ) : Type 0 where
-    pub size : length (own_pairs new) ≡ length (own_pairs old)
-    pub levels : (h : ℕ) → IsLevelled h old → IsLevelled h new
-    pub shape : (path : List ℕ) → IsSameAlong path old new
-    pub visited : IsVisited R first g (before_gap from old) (after_gap to old) (pairs_of old) (pairs_of new)
+  pub at_last : {old now : Node K V Z} {first f : F} {from to rest back : List ℕ} {i end : ℕ} → IsAt old now first f from to i end rest back → end ≤ i
+      → IsAt old now first f from to end end rest back
+  at_last {old = old} {now = now} {first = first} {f = f} {from = from} {to = to} {rest = rest} {back = back} {i = i} {end = end} at ge =
+      let e : i ≡ end = omega (arith, at.le) in
+      subst (λ j. IsAt old now first f from to j end rest back) e at
 
-  pub over : {old now c c' : Node K V Z} {first f g : F} {from to front back rest : List ℕ} {start end : ℕ} (s : AreInner old from to start end front back)
-      → IsAt old now first f from end end rest back → c ≡ get_or (children_of now) end c
-      → IsVisited R f g (before_gap rest c) (after_gap back c) (pairs_of c) (pairs_of c') → length (own_pairs c') ≡ length (own_pairs c)
-      → ((j : ℕ) → IsLevelled j c → IsLevelled j c') → ((p : List ℕ) → IsSameAlong p c c') → IsOver old (with_child now end c') first g from to
-  over {old = old} {now = now} {c = c} {c' = c'} {first = first} {f = f} {g = g} {from = from} {to = to} {front = front} {back = back} {rest = rest}
-      {start = start} {end = end} s at p v size levels shape =
-      let x = lent s at p in
-      let b = below_back x size levels in
-      let r = replaced now end c' in
-      let kept = replaced_levels s.h r (at.kept.levels (suc s.h) s.levels) b in
+module _ {K V Z : Type 0} where
+  -- in a leaf the ends are places
+  pub record IsLeafPart (n : Node K V Z) (from to : List ℕ) (start end : ℕ) : Type 0 where
+    pub levels : IsLevelled 0 n
+    pub order : (start ≤ end) × (end ≤ length (own_pairs n))
+    pub front : start ≡ length (before_gap from (bare n))
+    pub back : end ≡ length (pairs_of (bare n)) - length (after_gap to (bare n))
+
+  pub leaf_part : (n : Node K V Z) (from to : List ℕ) (start end len : ℕ) → AreEnds n from to → IsLeaf n → AreInOrder from to
+      → start ≡ get_or from 0 0 → end ≡ get_or to 0 len → len ≡ length (own_pairs n) → IsLeafPart n from to start end
+  leaf_part n from to start end len (zero, l, a, b) leaf o s e m =
+      let B = bare n in
+      let z = bare_size n in
+      let last : end ≡ get_or to 0 (length (own_pairs B)) = e ∙ ap (get_or to 0) (m ∙ sym z) in
+      let le = ends_order 0 from to B a o in
+      let inside = end_inside 0 to B (length (own_pairs B)) b (omega arith) in
+      let p = ap length (leaf_pairs B l.1) in
+      let q = ap length (leaf_back to B l.1 b) ∙ length-drop (get_or to 0 (length (own_pairs B))) (own_pairs B) in
       record {
-        size = r.size ∙ at.kept.same;
-        levels = λ h l. subst (λ k. IsLevelled k (with_child now end c')) (one_height (suc s.h) h old s.levels l) kept;
-        shape = child_shape R s.h old now c c' end rest back f g s.levels at.kept s.steps.last.le x.is v shape;
-        visited = at_end s.h old now c c' first f g from to start end end front rest back s.levels s.steps at refl x.is v b;
+        levels = levels_back 0 n l;
+        order = (omega arith, omega arith);
+        front = s ∙ sym (ap length (leaf_front from B l.1 a) ∙ length_take (get_or from 0 0) (own_pairs B) (omega arith));
+        back = omega arith;
       }
+  leaf_part n from to start end len (suc h, l, a, b) leaf o s e m = absurd (leaf_or_inner n leaf (levels_back (suc h) n l).1)
 
-  -- a leaf's pair
-  pub leaf_step : (old n n' : Node K V Z) (i : ℕ) (e : K × V) (w : V) (first f g : F) (front : List (K × V)) → IsLevelled 0 old → IsKept old n i i
-      → i < length (own_pairs old) → Grown R first f front (before_child old i) (before_child n i) → R f e g w → e ≡ get_or (own_pairs n) i e
-      → n' ≡ with_value n i w
-      → IsKept old n' (suc i) (suc i) × Grown R first g front (before_child old (suc i)) (before_child n' (suc i))
-  leaf_step old n n' i e w first f g front l k lt grown r p is =
-      let more : IsKept old n i (suc i) = record {
-        same = k.same;
-        own = k.own;
-        below = drop_next i (children_of n) (children_of old) k.below;
-        levels =
-            k.levels;
-        shape = k.shape;
-      } in
-      subst (λ x. IsKept old x (suc i) (suc i) × Grown R first g front (before_child old (suc i)) (before_child x (suc i))) (sym is)
-      (own_step R 0 old n i e w first f g front l more lt (subst (λ zs. Grown R first f front zs (before_own n i)) (sym (before_leaf old i l lt))
-      (subst (λ zs. Grown R first f front (before_child old i) zs) (sym (before_leaf n i (k.levels 0 l) (omega arith))) grown)) r p)
-
-  pub leaf_end : (old n : Node K V Z) (i end : ℕ) (first f : F) (front : List (K × V)) → IsLevelled 0 old → IsKept old n i i → i ≡ end
-      → Grown R first f front (before_child old i) (before_child n i) → IsVisited R first f front (after_child old end) (pairs_of old) (pairs_of n)
-  leaf_end old n i end first f front l k e grown =
-      subst (λ j. IsVisited R first f front (after_child old j) (pairs_of old) (pairs_of n)) e
-      (grown_end R first f front (before_child old i) (before_child n i) (after_child old i) (pairs_of old) (pairs_of n) grown (leaf_gap old i l.1)
-      (leaf_gap n i (k.levels 0 l).1 ∙ ap (λ zs. before_child n i ++ zs) (kept_rest old n i k)))
+module _ {F K V Z : Type 0} (R : F → K × V → F → V → Type 0) where
+  -- over a pair of a leaf
+  pub leaf_next : (old n : Node K V Z) (i : ℕ) (e : K × V) (w : V) {first f g : F} {start : ℕ} → IsLevelled 0 old → bare n ≡ bare old
+      → i < length (own_pairs old) → IsVisitedAt R first f start i (pairs_of old) (pairs_of n) → R f e g w → e ≡ get_or (own_pairs n) i e
+      → (bare (with_value n i w) ≡ bare old) × IsVisitedAt R first g start (i + 1) (pairs_of old) (pairs_of (with_value n i w))
+  leaf_next old n i e w {first = first} {f = f} {g = g} {start = start} l same lt at r p =
+      let m = same_levels old n same 0 l in
+      let size = same_size old n same in
+      let place : length (before_own n i) ≡ i = leaf_before_own n i m (omega arith) ∙ leaf_before n i m.1 (omega arith) in
+      let s = own_step R 0 n i e w f g m (omega arith) r p in (
+        bare_value n i w ∙ same,
+        at_join R first f g start i (i + 1) (pairs_of old) (pairs_of n) (pairs_of (with_value n i w)) at
+            (subst (λ j. IsVisitedAt R f g j (j + 1) (pairs_of n) (pairs_of (with_value n i w))) place s),
+      )

@@ -1,9 +1,7 @@
 -- A closure called at each pair of a list in turn, with its value lent for writing.
-use Rattle.std.specs.Prelude.{◌≡◌, ℕ, ◌+◌, ◌<◌, List, [], ◌∷◌, ◌++◌, length}
+use Rattle.std.specs.Prelude.{◌≡◌, ℕ, ◌+◌, List, [], ◌∷◌, ◌++◌, length}
 use Rattle.std.specs.Borrow.{Bor, MutBor}
 use Rattle.std.specs.Fn.{Mut, Called}
-use Rattle.fc_tree_node.specs.declared.node.Node.{Node}
-use Rattle.fc_tree_node.specs.Path.{IsPath}
 
 -- A call of f at the pair's key and a `&mut` to its value may leave f' and the value w there.
 pub record CalledAtPair {F K V : Type 0} (g : Mut F (Bor K × (MutBor V × Unit {0})) (Unit {0} × (MutBor V × Unit {0}))) (f : F) (e : K × V) (f' : F) (w : V) : Type 0 where
@@ -19,7 +17,7 @@ abbrev pub VisitsInTurn : {F K V : Type 0} → (F → K × V → F → V → Typ
 VisitsInTurn R f [] f' ys = (f' ≡ f) × (ys ≡ [])
 VisitsInTurn {F} {K} {V} R f (e ∷ es) f' ys = (g : F) × (w : V) × (zs : List (K × V)) × R f e g w × VisitsInTurn R g es f' zs × (ys ≡ (e.0, w) ∷ zs)
 
--- One list is the other with the values that calls by R in turn left, from after the pairs ahead up to those after; they took f to f'.
+-- One list is the other with the values that calls by R in turn left, from after the pairs before up to those after; they took f to f'.
 pub record IsVisited {F K V : Type 0} (R : F → K × V → F → V → Type 0) (f f' : F) (before after old new : List (K × V)) : Type 0 where
   pub within : List (K × V)
   pub left : List (K × V)
@@ -27,6 +25,10 @@ pub record IsVisited {F K V : Type 0} (R : F → K × V → F → V → Type 0) 
   pub new_is : new ≡ before ++ (left ++ after)
   pub visits : VisitsInTurn R f within f' left
 
--- The path leads to a gap of a leaf so many levels down, or it has no step and stands for the end of the tree on its side.
-abbrev pub IsEnd : {K V Z : Type 0} → ℕ → List ℕ → Node K V Z → Type 0
-IsEnd h path n = IsPath path n × (0 < length path → length path ≡ h + 1)
+-- The same, from one place among the pairs up to another.
+pub record IsVisitedAt {F K V : Type 0} (R : F → K × V → F → V → Type 0) (f f' : F) (from to : ℕ) (old new : List (K × V)) : Type 0 where
+  pub front : List (K × V)
+  pub back : List (K × V)
+  pub visited : IsVisited R f f' front back old new
+  pub start : length front ≡ from
+  pub stop : length front + length visited.within ≡ to

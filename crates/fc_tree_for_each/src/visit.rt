@@ -1,16 +1,17 @@
 //! A closure called at each pair below a node, in order.
-ghost use Rattle.std.specs.Prelude.{◌≡◌, ℕ, List, ◌+◌, ◌<◌, ◌≤◌, length, slice_index_or, drop, Some, IsSome};
+ghost use Rattle.std.specs.Prelude.{◌≡◌, ℕ, ◌-◌, ◌<◌, ◌≤◌, length, slice_index_or, drop, Some, IsSome};
 ghost use Rattle.std.specs.Borrow.{sem};
+ghost use Rattle.fc_tree_node.specs.Bare.{bare};
 ghost use Rattle.fc_tree_node.specs.Node.{own_pairs, pairs_of, IsLevelled};
 ghost use Rattle.fc_tree_node.specs.Path.{before_gap, after_gap};
-ghost use Rattle.fc_tree_node.specs.Place.{before_child, after_child};
 ghost use Rattle.fc_tree_search.specs.Written.{with_value};
-ghost use Rattle.fc_tree_for_each.specs.Shape.{IsSameAlong};
-ghost use Rattle.fc_tree_for_each.specs.Visits.{CalledAtPair, IsVisited, IsEnd};
+ghost use Rattle.fc_tree_cursor.specs.Ends.{AreInOrder, IsEnd};
+ghost use Rattle.fc_tree_for_each.specs.Visits.{CalledAtPair, IsVisitedAt};
 
 use fc_base::Handle;
 use fc_tree_node::lend::child_in;
 use fc_tree_node::node::Node;
+use fc_tree_node::path::split_step;
 
 /// Calls the closure at each pair below the node between two gaps, in order, with its value lent for writing. A path leads to each
 /// gap; one without steps stands for the end of the tree on its side. No memory is taken, and no node on the other side of a gap is
@@ -21,17 +22,15 @@ pub fn visit<K, V, F: FnMut(&K, &mut V), A: Handle>(
     to: &[u8],
     f: &mut F,
 )
-    requires ends { (h : ℕ) × IsLevelled h node.old × IsEnd h from.now node.old × IsEnd h to.now node.old }
-    requires order { length (before_gap from.now node.old) + length (after_gap to.now node.old) ≤ length (pairs_of node.old) }
+    requires ends { (h : ℕ) × IsLevelled h (bare node.old) × IsEnd h from.now (bare node.old) × IsEnd h to.now (bare node.old) }
+    requires order { AreInOrder from.now to.now }
     requires callable { F.IsAlwaysCallable f.old }
     ensures callable { F.IsAlwaysCallable f.new }
-    ensures size { length (own_pairs node.new) ≡ length (own_pairs node.old) }
-    ensures shape { (path : List ℕ) → IsSameAlong path node.old node.new }
-    ensures levels { (h : ℕ) → IsLevelled h node.old → IsLevelled h node.new }
-    ensures visited { IsVisited (CalledAtPair F.FnMut) f.old f.new (before_gap from.now node.old) (after_gap to.now node.old) (pairs_of node.old) (pairs_of node.new) }
+    ensures same { bare node.new ≡ bare node.old }
+    ensures visited { IsVisitedAt (CalledAtPair F.FnMut) f.old f.new (length (before_gap from.now (bare node.old))) (length (pairs_of (bare node.old)) - length (after_gap to.now (bare node.old))) (pairs_of node.old) (pairs_of node.new) }
 {
-    let (start, rest) = split(from, 0);
-    let (end, to_rest) = split(to, node.len());
+    let (start, rest) = split_step(from, 0);
+    let (end, to_rest) = split_step(to, node.len());
     if node.is_leaf() {
         visit_leaf(node, start, end, f);
         return;
@@ -45,17 +44,6 @@ pub fn visit<K, V, F: FnMut(&K, &mut V), A: Handle>(
     visit(child_in(&mut node.children, end), rest, to_rest, f);
 }
 
-// The first step of a path and those after it; where it has none, the step that stands for the end.
-fn split(path: &[u8], end: usize) -> (usize, &[u8])
-    ensures first { result.0 ≡ slice_index_or path.now 0 end }
-    ensures rest { result.1.now ≡ drop 1 path.now }
-{
-    match path.split_first() {
-        None => (end, path),
-        Some((first, rest)) => (*first as usize, rest),
-    }
-}
-
 // Calls the closure at the pairs of a leaf from one place to another.
 fn visit_leaf<K, V, F: FnMut(&K, &mut V), A: Handle>(
     node: &mut Node<K, V, A>,
@@ -67,10 +55,8 @@ fn visit_leaf<K, V, F: FnMut(&K, &mut V), A: Handle>(
     requires order { (start ≤ end) × (end ≤ length (own_pairs node.old)) }
     requires callable { F.IsAlwaysCallable f.old }
     ensures callable { F.IsAlwaysCallable f.new }
-    ensures size { length (own_pairs node.new) ≡ length (own_pairs node.old) }
-    ensures shape { (path : List ℕ) → IsSameAlong path node.old node.new }
-    ensures levels { IsLevelled 0 node.new }
-    ensures visited { IsVisited (CalledAtPair F.FnMut) f.old f.new (before_child node.old start) (after_child node.old end) (pairs_of node.old) (pairs_of node.new) }
+    ensures same { bare node.new ≡ bare node.old }
+    ensures visited { IsVisitedAt (CalledAtPair F.FnMut) f.old f.new start end (pairs_of node.old) (pairs_of node.new) }
 {
     for i in start..end {
         visit_own(node, i, f);

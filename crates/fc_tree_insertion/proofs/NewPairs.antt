@@ -46,7 +46,7 @@ module _ {X : Type 0} where
   before_over (c ∷ d ∷ cs) ds (p ∷ ps) m qs e = ap (λ zs. c ++ p ∷ zs) (before_over (d ∷ cs) ds ps m qs (omega arith))
       ∙ sym (append_assoc c (p ∷ weave (d ∷ cs) ps) (m ∷ before_list ds qs))
 
-  -- a list, cut at an item: what is in front of it tells which it is and what is after it
+  -- a list, cut at an item: what is before it tells which it is and what is after it
   same_cut : (xs ys zs ws : List X) (x y : X) → xs ++ x ∷ ys ≡ zs ++ y ∷ ws → xs ≡ zs → (x ≡ y) × (ys ≡ ws)
   same_cut xs ys zs ws x y e f =
       let g : xs ++ x ∷ ys ≡ xs ++ y ∷ ws = e ∙ ap (λ l. l ++ y ∷ ws) (sym f) in

@@ -2,7 +2,7 @@
 use Rattle.std.specs.Prelude.{◌≡◌, ℕ, suc, ◌+◌, ◌≤◌, ◌*◌, ◌==◌, Bool, true, ◌&&◌, if◌then◌else◌, List, [], ◌∷◌, length, Option, Some, None}
 use Rattle.fc_base.specs.Sizes.{capacity, most_split_moves}
 use Rattle.fc_tree_node.specs.declared.node.Node.{Node}
-use Rattle.fc_tree_node.specs.Node.{own_pairs, child_at, IsBlankLeaf}
+use Rattle.fc_tree_node.specs.Node.{own_pairs, child_at, IsEmptyLeaf}
 pub use Rattle.fc_tree_node.specs.Leaf.{leaf_at}
 
 module _ {K V Z : Type 0} where
@@ -27,7 +27,7 @@ module _ {K V Z : Type 0} where
   -- A leaf that holds nothing where there is one to be split, and else none.
   abbrev pub IsSpareLeaf : Option (Node K V Z) → ℕ → Type 0
   IsSpareLeaf None splits = splits ≡ 0
-  IsSpareLeaf (Some b) splits = (1 ≤ splits) × IsBlankLeaf b
+  IsSpareLeaf (Some b) splits = (1 ≤ splits) × IsEmptyLeaf b
 
   -- How many nodes there are, of a leaf and so many inner nodes made ahead.
   abbrev pub spare_count : Option (Node K V Z) → ℕ → ℕ

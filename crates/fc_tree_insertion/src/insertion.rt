@@ -1,7 +1,7 @@
 //! Insertion at a path, with the nodes that were made ahead for it.
 ghost use Rattle.std.specs.Prelude.{◌≡◌, ◌+◌, ◌-◌, ◌*◌, ◌<◌, ◌≤◌, [], ◌∷◌, ◌++◌, length, insert, MatchOption, IfSome, IfOk, IfErr, IsTrue, IsFalse, Some};
 ghost use Rattle.fc_base.specs.Sizes.{capacity, most_levels, level_moves, most_split_moves};
-ghost use Rattle.fc_tree_node.specs.Node.{own_pairs, children_of, pairs_of, IsLeaf, IsInner, IsLevelled, IsSoundRoot, IsBlankLeaf, IsBlankInner};
+ghost use Rattle.fc_tree_node.specs.Node.{own_pairs, children_of, pairs_of, IsLeaf, IsInner, IsLevelled, IsSoundRoot, IsEmptyLeaf, IsEmptyInner};
 ghost use Rattle.fc_tree_node.specs.Path.{IsPath, before_gap, after_gap};
 ghost use Rattle.fc_tree_insertion.specs.Cascade.{all_full, cascade, nodes_needed, insertion_moves, IsSpareLeaf};
 ghost use Rattle.fc_tree_insertion.specs.Insertion.{spread, own_pairs_after, children_after, IsHalved};
@@ -79,8 +79,8 @@ fn insert_with<K: Drop, V: Drop, A: Handle>(
     match insert_below(root, path, pair, leaf, inner, count) {
         None => {}
         Some((up, right)) => {
-            let blank = inner.take();
-            grow(root, up, right, blank, count);
+            let empty = inner.take();
+            grow(root, up, right, empty, count);
         }
     }
 }
@@ -90,16 +90,16 @@ pub fn grow<K: Drop, V: Drop, A: Handle>(
     root: &mut Node<K, V, A>,
     pair: (K, V),
     right: Node<K, V, A>,
-    blank: Node<K, V, A>,
+    empty: Node<K, V, A>,
     count: &mut Count,
 )
-    requires { IsBlankInner blank }
+    requires { IsEmptyInner empty }
     ensures pairs { own_pairs root.new ≡ pair ∷ [] }
     ensures children { children_of root.new ≡ root.old ∷ right ∷ [] }
     ensures comparisons { count.new.comparisons ≡ count.old.comparisons }
     ensures moves { count.new.moves ≡ count.old.moves + 1 }
 {
-    let left = mem::replace(root, blank);
+    let left = mem::replace(root, empty);
     let Node { pairs, children } = root;
     let Some(children) = children else {
         unreachable!()
@@ -164,7 +164,7 @@ fn put_leaf<K: Drop, V: Drop, A: Handle>(
 ) -> Option<((K, V), Node<K, V, A>)>
     requires in_bounds { i ≤ length (own_pairs node.old) }
     requires leaf { IsLeaf node.old }
-    requires spare { MatchOption spare (length (own_pairs node.old) < capacity) (λ b. (length (own_pairs node.old) ≡ capacity) × IsBlankLeaf b) }
+    requires spare { MatchOption spare (length (own_pairs node.old) < capacity) (λ b. (length (own_pairs node.old) ≡ capacity) × IsEmptyLeaf b) }
     ensures pairs { own_pairs_after node.new result ≡ insert (own_pairs node.old) i pair }
     ensures leaf { IsLeaf node.new × IfSome result (λ s. IsLeaf s.1) }
     ensures size { MatchOption result (length (own_pairs node.new) ≤ capacity) (λ s. IsHalved node.new × IsHalved s.1) }

@@ -1,7 +1,7 @@
 //! Nodes made ahead for several insertions.
 ghost use Rattle.std.specs.Prelude.{◌≡◌, ◌+◌, ◌-◌, ◌<◌, ◌≤◌, length, IfOk, IfErr, IsOk};
 ghost use Rattle.fc_base.specs.Sizes.{most_levels};
-ghost use Rattle.fc_tree_node.specs.Node.{IsLevelled, IsBlankLeaf, IsBlankInner};
+ghost use Rattle.fc_tree_node.specs.Node.{IsLevelled, IsEmptyLeaf, IsEmptyInner};
 ghost use Rattle.fc_tree_node.specs.Path.{IsPath};
 ghost use Rattle.fc_tree_insertion.specs.Cascade.{nodes_needed};
 
@@ -23,7 +23,7 @@ impl<K, V, A: Handle> Model for NodePool<K, V, A> {
     ghost use Rattle.std.specs.Prelude.{ℕ, length};
     ghost use Rattle.std.specs.List.{AllByRecursion};
     ghost use Rattle.std.specs.Coded.{coded_ℕ};
-    ghost use Rattle.fc_tree_node.specs.Node.{IsBlankInner};
+    ghost use Rattle.fc_tree_node.specs.Node.{IsEmptyInner};
 
     ghost Value = { ℕ };
 
@@ -31,7 +31,7 @@ impl<K, V, A: Handle> Model for NodePool<K, V, A> {
 
     ghost view = { λ s. length s.nodes.items };
 
-    ghost invariant = { λ s. AllByRecursion (λ b. IsBlankInner b) s.nodes.items };
+    ghost invariant = { λ s. AllByRecursion (λ b. IsEmptyInner b) s.nodes.items };
 }
 
 impl<K: Drop, V: Drop, A: Handle> NodePool<K, V, A> {
@@ -60,7 +60,7 @@ impl<K: Drop, V: Drop, A: Handle> NodePool<K, V, A> {
 
     // Adds a node.
     fn try_put(&mut self, node: Node<K, V, A>) -> Result<(), TryReserveError>
-        requires { IsBlankInner node }
+        requires { IsEmptyInner node }
         ensures len { IfOk result (λ _. self.new ≡ self.old + 1) }
         ensures error { IfErr result (λ e. e ≡ TryReserveError.AllocError) }
     {
@@ -71,7 +71,7 @@ impl<K: Drop, V: Drop, A: Handle> NodePool<K, V, A> {
     // Takes a node out.
     fn take(&mut self) -> Node<K, V, A>
         requires { 0 < self.old }
-        ensures blank { IsBlankInner result }
+        ensures empty { IsEmptyInner result }
         ensures len { self.new + 1 ≡ self.old }
     {
         match self.nodes.pop() {
@@ -83,7 +83,7 @@ impl<K: Drop, V: Drop, A: Handle> NodePool<K, V, A> {
     // Takes a node out to be a leaf.
     fn take_leaf(&mut self) -> Node<K, V, A>
         requires { 0 < self.old }
-        ensures blank { IsBlankLeaf result }
+        ensures empty { IsEmptyLeaf result }
         ensures len { self.new + 1 ≡ self.old }
     {
         let mut node = self.take();

@@ -1,7 +1,7 @@
 //! An insertion in two halves: its nodes are made, and then nothing refuses it.
 ghost use Rattle.std.specs.Prelude.{◌≡◌, ℕ, ◌+◌, ◌<◌, ◌≤◌, [], ◌∷◌, ◌++◌, length, IfOk, IfErr, OnOk, OnErr, Some};
 ghost use Rattle.fc_base.specs.Sizes.{capacity};
-ghost use Rattle.fc_tree_node.specs.Node.{own_pairs, pairs_of, IsLevelled, IsSoundRoot, IsBlankLeaf};
+ghost use Rattle.fc_tree_node.specs.Node.{own_pairs, pairs_of, IsLevelled, IsSoundRoot, IsEmptyLeaf};
 ghost use Rattle.fc_tree_node.specs.Depth.{HasFewMoves};
 ghost use Rattle.fc_tree_node.specs.Path.{IsPath, before_gap, after_gap};
 ghost use Rattle.fc_tree_node.specs.Tree.{IsSoundMap};
@@ -142,7 +142,7 @@ pub fn first_root<K: Drop, V: Drop, A: Handle>(
 // The leaf among the nodes that were made.
 fn new_leaf<K: Drop, V: Drop, A: Handle>(new_nodes: NewNodes<K, V, A>) -> Node<K, V, A>
     requires { 0 < new_nodes }
-    ensures { IsBlankLeaf result }
+    ensures { IsEmptyLeaf result }
 {
     let NewNodes { leaf, inner: _ } = new_nodes;
     match leaf {

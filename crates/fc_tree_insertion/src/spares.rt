@@ -1,7 +1,7 @@
 //! Inner nodes that hold nothing, made ahead for the nodes that an insertion splits.
 ghost use Rattle.std.specs.Prelude.{◌≡◌, ◌+◌, ◌<◌, ◌≤◌, Option, None, Some};
 ghost use Rattle.fc_base.specs.Sizes.{most_levels};
-ghost use Rattle.fc_tree_node.specs.Node.{IsBlankInner};
+ghost use Rattle.fc_tree_node.specs.Node.{IsEmptyInner};
 ghost use Rattle.fc_tree_insertion.specs.Chain.{IsAbove};
 
 use fc_base::Handle;
@@ -52,7 +52,7 @@ impl<K, V, A: Handle> Spares<K, V, A> {
 impl<K: Drop, V: Drop, A: Handle> Spares<K, V, A> {
     // Adds a node that holds nothing.
     pub(crate) fn push(&mut self, node: Node<K, V, A>)
-        requires blank { IsBlankInner node }
+        requires empty { IsEmptyInner node }
         requires few { self.old < most_levels }
         ensures { self.new ≡ self.old + 1 }
     {
@@ -67,7 +67,7 @@ impl<K: Drop, V: Drop, A: Handle> Spares<K, V, A> {
     /// Takes out the node that was added last.
     pub fn take(&mut self) -> Node<K, V, A>
         requires { 0 < self.old }
-        ensures node { IsBlankInner result }
+        ensures node { IsEmptyInner result }
         ensures len { self.new + 1 ≡ self.old }
     {
         let Some(mut node) = self.top.take() else {

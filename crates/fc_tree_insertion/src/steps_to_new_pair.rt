@@ -2,7 +2,7 @@
 ghost use Rattle.std.specs.Prelude.{◌≡◌, ◌+◌, ◌<◌, ◌≤◌, nat_lt, if◌then◌else◌, length};
 ghost use Rattle.std.specs.List.{AllByRecursion};
 ghost use Rattle.fc_base.specs.Sizes.{capacity, most_levels};
-ghost use Rattle.fc_tree_insertion.specs.NewPair.{step_from as child_step, goes_right as is_beyond, half_step as step_in_half, is_right, steps_to_new_pair as steps_in_halves, path_after};
+ghost use Rattle.fc_tree_insertion.specs.NewPair.{step_from as child_step, goes_right as is_after, half_step as step_in_half, is_right, steps_to_new_pair as steps_in_halves, path_after};
 
 use fc_tree_node::node::left_len;
 use fc_tree_node::path::Path;
@@ -57,7 +57,7 @@ fn step_from(index: usize, right: bool) -> usize
 
 // Whether what stands at `step` of a node that is split for a pair at `index` is in the right half.
 fn goes_right(index: usize, step: usize) -> bool
-    ensures { result ≡ is_beyond index step }
+    ensures { result ≡ is_after index step }
 {
     step > left_len(index)
 }

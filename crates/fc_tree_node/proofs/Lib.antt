@@ -15,3 +15,4 @@ pub mod PathSteps
 pub mod Sizes
 pub mod Lent
 pub mod Ways
+pub mod Bare

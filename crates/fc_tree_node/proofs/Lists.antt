@@ -63,13 +63,6 @@ module _ {X : Type 0} where
       → insert (slice_set (remove xs (i + 1)) i x) (i + 1) y ≡ slice_set (slice_set xs i x) (i + 1) y
   set_around xs i x y h = rw add-one (set_around_suc xs i x y (rw add-one at h))
 
-  pub take_lengths : (i : ℕ) (xs ys : List X) → length xs ≡ length ys → length (take i xs) ≡ length (take i ys)
-  take_lengths zero xs ys e = refl
-  take_lengths (suc i) [] [] e = refl
-  take_lengths (suc i) [] (y ∷ ys) e = absurd (omega arith)
-  take_lengths (suc i) (x ∷ xs) [] e = absurd (omega arith)
-  take_lengths (suc i) (x ∷ xs) (y ∷ ys) e = ap suc (take_lengths i xs ys (omega arith))
-
   -- some item of a list that has one
   pub item_in : (xs : List X) → 0 < length xs → X
   item_in [] h = absurd (omega arith)

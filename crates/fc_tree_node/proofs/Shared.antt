@@ -63,11 +63,11 @@ module _ {K V Z : Type 0} (old : Node K V Z) (i : ℕ) (bs : List (Node K V Z)) 
   pub next_child : (b n : Node K V Z) → i + 1 < length bs → n ≡ get_or (slice_set bs i b) (i + 1) n → n ≡ child_at old (i + 1)
   next_child b n h p = listed_child (i + 1) n h (p ∙ get_or-set_other bs i (i + 1) b n (λ s. omega arith))
 
-  -- the child in front of the one that came back as b
+  -- the child before the one that came back as b
   pub last_child : (b n : Node K V Z) → i < length bs → n ≡ get_or (slice_set bs (i + 1) b) i n → n ≡ child_at old i
   last_child b n h p = listed_child i n h (p ∙ get_or-set_other bs (i + 1) i b n (λ s. omega arith))
 
-  -- the child in front of the one that was taken out
+  -- the child before the one that was taken out
   pub kept_child : (cs : List (Node K V Z)) (n : Node K V Z) → i + 1 < length bs → cs ≡ remove bs (i + 1) → n ≡ get_or cs i n → n ≡ child_at old i
   kept_child cs n h c p = listed_child i n (omega arith) (p ∙ ap (λ xs. get_or xs i n) c ∙ get_or-remove_below bs (i + 1) n i (omega arith) h)
 

@@ -15,3 +15,4 @@ pub mod Shrunk
 pub mod LeafGap
 pub mod Lends
 pub mod Way
+pub mod Bare

@@ -57,9 +57,9 @@ module _ {K V Z : Type 0} where
   IsSoundRoot h n = (1 ≤ length (own_pairs n)) × IsLevelled h n
 
   -- A leaf that holds nothing.
-  abbrev pub IsBlankLeaf : Node K V Z → Type 0
-  IsBlankLeaf n = (own_pairs n ≡ []) × IsLeaf n
+  abbrev pub IsEmptyLeaf : Node K V Z → Type 0
+  IsEmptyLeaf n = (own_pairs n ≡ []) × IsLeaf n
 
   -- A node with room for children that holds nothing.
-  abbrev pub IsBlankInner : Node K V Z → Type 0
-  IsBlankInner n = (own_pairs n ≡ []) × ((out-Node K V Z n).children ≡ Some [])
+  abbrev pub IsEmptyInner : Node K V Z → Type 0
+  IsEmptyInner n = (own_pairs n ≡ []) × ((out-Node K V Z n).children ≡ Some [])

@@ -6,7 +6,7 @@ use Rattle.fc_base.specs.Sizes.{capacity, min_len}
 abbrev pub middle_place : ℕ → ℕ
 middle_place i = if nat_lt i min_len then min_len - 1 else (if nat_lt i (min_len + 2) then min_len else min_len + 1)
 
--- How many pairs the left node then holds: those before the middle, and the new one where i is in front of it.
+-- How many pairs the left node then holds: those before the middle, and the new one where i is before it.
 abbrev pub left_length : ℕ → ℕ
 left_length i = if nat_le i min_len then middle_place i + 1 else middle_place i
 

@@ -16,7 +16,7 @@ padded path = path ++ drop (length path) padding
 abbrev pub path_of : Inside → List ℕ
 path_of a = take a.len a.steps
 
--- What is past the path's end is zero.
+-- What is after the path's end is zero.
 abbrev pub IsPadded : Inside → Type 0
 IsPadded a = (length (path_of a) ≡ a.len) × (padded (path_of a) ≡ a.steps) × (a.len ≤ most_levels)
 

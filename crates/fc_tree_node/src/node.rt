@@ -9,7 +9,7 @@
 //! two calls that make a node.
 ghost use Rattle.std.specs.Prelude.{◌≡◌, ◌+◌, ◌<◌, ◌≤◌, [], length, slice_index_or, IfOk, IfErr, IsTrue, ◌↔◌};
 ghost use Rattle.fc_base.specs.Sizes.{capacity, most_children};
-ghost use Rattle.fc_tree_node.specs.Node.{own_pairs, children_of, child_at, IsLeaf, IsBlankLeaf, IsBlankInner};
+ghost use Rattle.fc_tree_node.specs.Node.{own_pairs, children_of, child_at, IsLeaf, IsEmptyLeaf, IsEmptyInner};
 
 use fc_base::{Handle, TryReserveError};
 use fc_tree_slots::children::Children;
@@ -45,7 +45,7 @@ impl<K: Drop, V: Drop, A: Handle> Node<K, V, A> {
     /// # Errors
     /// `AllocError` if it is refused.
     pub fn try_leaf(alloc: A) -> Result<Node<K, V, A>, TryReserveError>
-        ensures ok { IfOk result (λ b. IsBlankLeaf b) }
+        ensures ok { IfOk result (λ b. IsEmptyLeaf b) }
         ensures error { IfErr result (λ e. e ≡ TryReserveError.AllocError) }
     {
         let pairs = Slots::try_new(alloc)?;
@@ -60,7 +60,7 @@ impl<K: Drop, V: Drop, A: Handle> Node<K, V, A> {
     /// # Errors
     /// `AllocError` if one is refused. Nothing is then left after.
     pub fn try_inner(alloc: A) -> Result<Node<K, V, A>, TryReserveError>
-        ensures ok { IfOk result (λ b. IsBlankInner b) }
+        ensures ok { IfOk result (λ b. IsEmptyInner b) }
         ensures error { IfErr result (λ e. e ≡ TryReserveError.AllocError) }
     {
         let pairs = Slots::try_new(alloc)?;

@@ -1,5 +1,5 @@
 //! Paths down a tree.
-ghost use Rattle.std.specs.Prelude.{◌≡◌, ◌+◌, ◌<◌, ◌≤◌, [], ◌∷◌, ◌++◌, length, slice_index, slice_set};
+ghost use Rattle.std.specs.Prelude.{◌≡◌, ◌+◌, ◌<◌, ◌≤◌, [], ◌∷◌, ◌++◌, length, slice_index, slice_index_or, slice_set, drop};
 ghost use Rattle.fc_base.specs.Sizes.{most_levels};
 
 use std::marker::Model;
@@ -8,7 +8,7 @@ use std::marker::Model;
 pub const MAX_STEPS: usize = 22;
 
 /// A path down a tree: in each node that it leads through, the place of the child where it goes on, and at its end the
-/// place of a pair or of a gap. It takes no memory, and a byte a step, since a node has few places. Past its end all bytes are zero.
+/// place of a pair or of a gap. It takes no memory, and a byte a step, since a node has few places. After its end all bytes are zero.
 #[derive(Clone, Copy)]
 pub struct Path {
     steps: [u8; MAX_STEPS],
@@ -111,5 +111,17 @@ impl Path {
         all[1..self.len + 1].copy_from_slice(&self.steps[..self.len]);
         self.steps = all;
         self.len += 1;
+    }
+}
+
+/// The first step of a path and those after it; where it has none, the step that stands for it.
+#[inline]
+pub fn split_step(path: &[u8], otherwise: usize) -> (usize, &[u8])
+    ensures first { result.0 ≡ slice_index_or path.now 0 otherwise }
+    ensures rest { result.1.now ≡ drop 1 path.now }
+{
+    match path.split_first() {
+        None => (otherwise, path),
+        Some((first, rest)) => (*first as usize, rest),
     }
 }

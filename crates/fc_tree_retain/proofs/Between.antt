@@ -1,74 +1,26 @@
 -- The pairs of a tree between two gaps, some of which do not stay.
-use Rattle.std.proofs.Common.{◌≡◌, ℕ, suc, zero, ◌+◌, ◌-◌, ◌^◌, ◌<◌, ◌≤◌, List, [], ◌∷◌, ◌++◌, length, take, drop, refl, sym, ap, subst, ◌∙◌, arith, cond}
-use Rattle.std.proofs.Common.{append_assoc, inl, inr, ◌⊎◌, Some, None}
+use Rattle.std.proofs.Common.{◌≡◌, ℕ, ◌+◌, ◌-◌, ◌^◌, ◌<◌, List, [], ◌∷◌, ◌++◌, length, take, drop, refl, sym, ap, subst, ◌∙◌, arith, cond}
+use Rattle.std.proofs.Common.{append_assoc, Some, None}
 use Rattle.std.specs.Prelude.{Bool, true, false, ⊤}
 use Rattle.std.specs.Bool.{MatchBool}
 use Rattle.std.specs.declared.cmp.Ordering.{Ordering}
-use Rattle.std.proofs.lemmas.Bool.{cases_lt}
-use Rattle.std.proofs.lemmas.List.{length-append, nil_from_length}
+use Rattle.std.proofs.lemmas.List.{length-append}
 use Rattle.fc_base.specs.Ascending.{IsAscending}
 use Rattle.fc_tree_node.specs.declared.node.Node.{Node}
-use Rattle.fc_tree_node.specs.LeafGap.{IsLeafGap}
-use Rattle.fc_tree_node.specs.Node.{child_at, pairs_of, IsLevelled}
-use Rattle.fc_tree_node.specs.Path.{IsPath, before_gap}
-use Rattle.fc_tree_node.specs.Place.{before_child}
+use Rattle.fc_tree_node.specs.Node.{pairs_of}
 use Rattle.fc_tree_node.specs.Tree.{Map, entries, IsSoundMap}
 use Rattle.fc_tree_node.specs.TreePlace.{before_gap_in, after_gap_in}
-use Rattle.fc_tree_node.proofs.Pairs.{child_below}
 use Rattle.fc_tree_cursor.specs.Gap.{AreEndsIn}
 use Rattle.fc_tree_cursor.specs.Span.{between}
 use Rattle.fc_tree_cursor.proofs.Bounds.{gap_entries}
-use Rattle.fc_tree_cursor.proofs.Meetings.{earlier}
 use Rattle.fc_tree_retain.specs.Retained.{RetainsInTurn}
 use Rattle.fc_tree_retain.specs.Filtered.{FiltersPair}
-use Rattle.fc_tree_retain.specs.Stretch.{AreInOrder, IsEnd, IsStretchFiltered}
+use Rattle.fc_tree_retain.specs.Stretch.{IsRangeFiltered}
 use Rattle.fc_tree_retain.proofs.Kept.{kept_ascending}
 use Rattle.fc_tree_retain.proofs.Lists.{take_place, drop_place, longer}
 use Rattle.fc_tree_retain.proofs.Turns.{retains_join, retains_as}
 
 module _ {K V Z : Type 0} where
-  gap_end : (h : ℕ) (path : List ℕ) (n : Node K V Z) → IsLevelled h n → IsLeafGap path n → IsEnd h path n
-  gap_end h [] n l g = tt
-  gap_end h (i ∷ path) n l g = (g.0, let e = g.1 h l in omega arith)
-
-  -- the first path's steps are no later
-  first_order : (h : ℕ) (n : Node K V Z) (i j : ℕ) (p q : List ℕ) → IsLevelled h n → IsPath (i ∷ p) n → IsPath (j ∷ q) n → length q ≡ h
-      → length (before_gap (i ∷ p) n) ≤ length (before_gap (j ∷ q) n) → (i ≡ j → AreInOrder p q) → AreInOrder (i ∷ p) (j ∷ q)
-  first_order h n i j p q l v w e le onward = go (cases_lt i j) (cases_lt j i)
-    where
-      go : (i < j) ⊎ (j ≤ i) → (j < i) ⊎ (i ≤ j) → AreInOrder (i ∷ p) (j ∷ q)
-      go (inl a) b = inl a
-      go (inr a) (inl b) = absurd (let c = earlier h n j i q p l b v.0 w.1 e in omega (arith, c, le))
-      go (inr a) (inr b) = let s : i ≡ j = omega arith in inr (s, onward s)
-
-  steps_order : (h : ℕ) (n : Node K V Z) (p q : List ℕ) → IsLevelled h n → IsPath p n → IsPath q n → length p ≡ h + 1 → length q ≡ h + 1
-      → length (before_gap p n) ≤ length (before_gap q n) → AreInOrder p q
-  steps_order h n [] q l v w e f le = tt
-  steps_order h n (i ∷ p) [] l v w e f le = tt
-  steps_order zero n (i ∷ p) (j ∷ q) l v w e f le =
-      first_order zero n i j p q l v w (omega arith) le (λ _. subst (λ r. AreInOrder r q) (sym (nil_from_length p (omega arith))) tt)
-  steps_order (suc h) n (i ∷ p) (j ∷ q) l v w e f le =
-      first_order (suc h) n i j p q l v w (omega arith) le (λ s.
-      let x = subst (λ k. IsPath q (child_at n k)) (sym s) w.1 in
-      let y : length (before_gap (i ∷ p) n) ≤ length (before_gap (i ∷ q) n) =
-      subst (λ k. length (before_gap (i ∷ p) n) ≤ length (before_gap (k ∷ q) n)) (sym s) le in
-      let b = length-append (before_child n i) (before_gap p (child_at n i)) in
-      let c = length-append (before_child n i) (before_gap q (child_at n i)) in
-      steps_order h (child_at n i) p q (child_below h n i l v.0).1 v.1 x (omega arith) (omega arith) (omega (arith, y, b, c)))
-
-  -- the two ends in the root
-  pub record AreEndsOf (h : ℕ) (root : Node K V Z) (front back : List ℕ) : Type 0 where
-    pub front_end : IsEnd h front root
-    pub back_end : IsEnd h back root
-    pub order : AreInOrder front back
-
-  pub ends_of : (h : ℕ) (root : Node K V Z) (front back : List ℕ) → IsLevelled h root → AreEndsIn (Some root) front back → AreEndsOf h root front back
-  ends_of h root front back l e = record {
-    front_end = gap_end h front root l e.0;
-    back_end = gap_end h back root l e.1;
-    order = steps_order h root front back l e.0.0 e.1.0 (e.0.1 h l) (e.1.1 h l) e.2;
-  }
-
   -- what is between
   between_is : (m : Map K V Z) (front back : List ℕ) (xs : List (K × V)) → entries m ≡ before_gap_in m back ++ after_gap_in m back
       → entries m ≡ before_gap_in m front ++ (xs ++ after_gap_in m back) → between m front back ≡ xs
@@ -96,12 +48,12 @@ module _ {K V Z : Type 0} where
 
   -- the tree whose root was filtered
   pub rooted : {S : Type 0} (R : S → K × V → S → V → Bool → Type 0) (s t : S) (front back : List ℕ) (m new : Map K V Z) (root mid : Node K V Z)
-      → m ≡ Some root → IsSoundMap m → AreEndsIn m front back → IsStretchFiltered R s t front back root mid → entries new ≡ pairs_of mid
+      → m ≡ Some root → IsSoundMap m → AreEndsIn m front back → IsRangeFiltered R s t front back root mid → entries new ≡ pairs_of mid
       → (stay : List (K × V)) × RetainsInTurn R s (between m front back) t stay × (entries new ≡ before_gap_in m front ++ (stay ++ after_gap_in m back))
   rooted R s t front back None new root mid is sound ends e n = absurd cc
   rooted R s t front back (Some r) new root mid is sound ends e n =
       let same : root ≡ r = cc in
-      let x = subst (λ o. IsStretchFiltered R s t front back o mid) same e in
+      let x = subst (λ o. IsRangeFiltered R s t front back o mid) same e in
       let b = between_is (Some r) front back x.asked (gap_entries (Some r) back sound ends.1) x.before in
       (x.stay, subst (λ xs. RetainsInTurn R s xs t x.stay) (sym b) x.filtered, n ∙ x.after)
 

@@ -6,8 +6,8 @@ use Rattle.fc_tree_node.specs.declared.node.Node.{Node}
 use Rattle.fc_tree_node.specs.Node.{own_pairs, children_of, child_at, pairs_of, IsInner, IsSound}
 use Rattle.fc_tree_node.proofs.Lists.{all_both, all_at}
 use Rattle.fc_tree_node.proofs.Gaps.{drop_item}
-use Rattle.fc_tree_retain.specs.Rebalancing.{IsThin, IsSeam, IsSeamRebalanced}
-use Rattle.fc_tree_retain.specs.Stretch.{IsThinWithin}
+use Rattle.fc_tree_retain.specs.Rebalancing.{IsUnderfull, IsSeam, IsSeamRebalanced}
+use Rattle.fc_tree_retain.specs.Stretch.{IsUnderfullWithin}
 use Rattle.fc_tree_retain.proofs.Settling.{IsRebalancedTo, IsNextRebalanced, seam_rebalanced_to, seam_sizes, rebalanced_all, all_from}
 
 module _ {X : Type 0} (P : X → Type 0) where
@@ -25,17 +25,17 @@ module _ {X : Type 0} (P : X → Type 0) where
   one_of (x ∷ xs) (suc i) (suc j) d h k a = one_of xs i j d (omega arith) (omega arith) a.1
 
 module _ {K V Z : Type 0} where
-  -- so many may hold few pairs, and those behind these are sound
-  abbrev pub AreThinFirst : ℕ → ℕ → List (Node K V Z) → Type 0
-  AreThinFirst h left cs = AllByRecursion (IsThin h) cs × AllByRecursion (IsSound h) (drop left cs)
+  -- so many may hold few pairs, and those after these are sound
+  abbrev pub AreUnderfullFirst : ℕ → ℕ → List (Node K V Z) → Type 0
+  AreUnderfullFirst h left cs = AllByRecursion (IsUnderfull h) cs × AllByRecursion (IsSound h) (drop left cs)
 
   pub record IsBordering (old now : Node K V Z) (first last at left : ℕ) : Type 0 where
     pub pairs : pairs_of now ≡ pairs_of old
     pub inner : IsInner now
     pub inside : at + left ≤ length (own_pairs now)
-    pub levels : (h : ℕ) → IsThinWithin h old first last → IsRebalancedTo (AreThinFirst h left) h at now
+    pub levels : (h : ℕ) → IsUnderfullWithin h old first last → IsRebalancedTo (AreUnderfullFirst h left) h at now
 
-  pub bordering_start : (g : ℕ) (n : Node K V Z) (first last at left : ℕ) → IsThinWithin g n first last → at ≡ first - 1 → at + left ≡ last
+  pub bordering_start : (g : ℕ) (n : Node K V Z) (first last at left : ℕ) → IsUnderfullWithin g n first last → at ≡ first - 1 → at + left ≡ last
       → IsBordering n n first last at left
   bordering_start g n first last at left t p e =
       let inside = t.last in
@@ -46,24 +46,24 @@ module _ {K V Z : Type 0} where
         levels = start;
       }
     where
-      start : (h : ℕ) → IsThinWithin h n first last → IsRebalancedTo (AreThinFirst h left) h at n
+      start : (h : ℕ) → IsUnderfullWithin h n first last → IsRebalancedTo (AreUnderfullFirst h left) h at n
       start h t =
           let cs = children_of n in
-          let behind : suc at + left ≡ last + 1 = omega arith in
+          let reached : suc at + left ≡ last + 1 = omega arith in
           record {
             fits = t.fits;
             before = all_fewer (IsSound h) cs at first (omega arith) t.before;
-            thin = all_at (IsThin h) cs at n (omega arith) t.thin;
+            underfull = all_at (IsUnderfull h) cs at n (omega arith) t.underfull;
             sound = λ some. one_of (IsSound h) cs at first n (omega arith) (omega arith) t.before;
             after = (
-              all_from (IsThin h) cs (suc at) t.thin,
-              subst (AllByRecursion (IsSound h)) (sym (drop-drop left (suc at) cs ∙ ap (λ i. drop i cs) behind)) t.after,
+              all_from (IsUnderfull h) cs (suc at) t.underfull,
+              subst (AllByRecursion (IsSound h)) (sym (drop-drop left (suc at) cs ∙ ap (λ i. drop i cs) reached)) t.after,
             );
           }
 
   -- the next two children meet
   next_two : (Q Q' : List (Node K V Z) → Type 0) (h at : ℕ) (n : Node K V Z) → IsInner n → at < length (own_pairs n) → IsRebalancedTo Q h at n
-      → ((c : Node K V Z) (cs : List (Node K V Z)) → Q (c ∷ cs) → IsThin h c × Q' cs) → IsNextRebalanced Q' h at n
+      → ((c : Node K V Z) (cs : List (Node K V Z)) → Q (c ∷ cs) → IsUnderfull h c × Q' cs) → IsNextRebalanced Q' h at n
   next_two Q Q' h at n inner lt g f =
       let cs = children_of n in
       let k : length cs ≡ length (own_pairs n) + 1 = inner in
@@ -75,20 +75,20 @@ module _ {K V Z : Type 0} where
           fits = g.fits;
           inner = inner;
           before = g.before;
-          left = g.thin;
-          right = subst (λ i. IsThin h (child_at n i)) (sym one) r.0;
+          left = g.underfull;
+          right = subst (λ i. IsUnderfull h (child_at n i)) (sym one) r.0;
         };
         sound = g.sound;
         after = r.1;
       }
 
   pub bordering_seam : (old now : Node K V Z) (first last at left left' : ℕ) → IsBordering old now first last at left → left ≡ suc left'
-      → (h : ℕ) → IsThinWithin h old first last → IsNextRebalanced (AreThinFirst h left') h at now
+      → (h : ℕ) → IsUnderfullWithin h old first last → IsNextRebalanced (AreUnderfullFirst h left') h at now
   bordering_seam old now first last at left left' b e h t =
-      next_two (AreThinFirst h left) (AreThinFirst h left') h at now b.inner (omega arith) (b.levels h t)
+      next_two (AreUnderfullFirst h left) (AreUnderfullFirst h left') h at now b.inner (omega arith) (b.levels h t)
       (λ c cs q. (q.0.0, (q.0.1, subst (λ k. AllByRecursion (IsSound h) (drop k (c ∷ cs))) e q.1)))
 
-  pub bordering_more : (g : ℕ) (old now new : Node K V Z) (first last at left left' j : ℕ) → IsThinWithin g old first last
+  pub bordering_more : (g : ℕ) (old now new : Node K V Z) (first last at left left' j : ℕ) → IsUnderfullWithin g old first last
       → IsBordering old now first last at left → left ≡ suc left' → pairs_of new ≡ pairs_of now
       → ((h : ℕ) → IsSeam h now at → IsSeamRebalanced h at j now new) → IsBordering old new first last j left'
   bordering_more g old now new first last at left left' j t b e np st =
@@ -100,30 +100,30 @@ module _ {K V Z : Type 0} where
         inner = z.1;
         inside = omega arith;
         levels = λ h u. let y = bordering_seam old now first last at left left' b e h u in
-            seam_rebalanced_to (AreThinFirst h left') h at j now new y (st h y.seam);
+            seam_rebalanced_to (AreUnderfullFirst h left') h at j now new y (st h y.seam);
       }
 
   -- the last of them meets one that is sound
   pub bordering_last : (old now : Node K V Z) (first last at : ℕ) → IsBordering old now first last at 0 → at < length (own_pairs now)
-      → (h : ℕ) → IsThinWithin h old first last → IsNextRebalanced (AllByRecursion (IsSound h)) h at now × IsSound h (child_at now (at + 1))
+      → (h : ℕ) → IsUnderfullWithin h old first last → IsNextRebalanced (AllByRecursion (IsSound h)) h at now × IsSound h (child_at now (at + 1))
   bordering_last old now first last at b lt h t =
       let cs = children_of now in
       let one : at + 1 ≡ suc at = omega arith in
       let m = b.levels h t in
       let all = subst (AllByRecursion (IsSound h)) (drop_item cs (suc at) now (omega arith)) m.after.1 in (
-        next_two (AreThinFirst h 0) (AllByRecursion (IsSound h)) h at now b.inner lt m (λ c ds q. (q.0.0, q.1.1)),
+        next_two (AreUnderfullFirst h 0) (AllByRecursion (IsSound h)) h at now b.inner lt m (λ c ds q. (q.0.0, q.1.1)),
         subst (λ i. IsSound h (child_at now i)) (sym one) all.0,
       )
 
   pub bordering_seam_rebalanced : (h at j : ℕ) (mid new : Node K V Z) → IsNextRebalanced (AllByRecursion (IsSound h)) h at mid → IsSound h
       (child_at mid (at + 1))
-      → IsSeamRebalanced h at j mid new → IsThin (suc h) new
+      → IsSeamRebalanced h at j mid new → IsUnderfull (suc h) new
   bordering_seam_rebalanced h at j mid new x sound st = go st
     where
       sizes : (length (own_pairs new) + (at + 1) ≡ length (own_pairs mid) + j) × IsInner new
       sizes = seam_sizes h at j mid new x.seam st
 
-      go : IsSeamRebalanced h at j mid new → IsThin (suc h) new
+      go : IsSeamRebalanced h at j mid new → IsUnderfull (suc h) new
       go (inl (q, o)) = (
         omega arith,
         sizes.1,
@@ -138,6 +138,6 @@ module _ {K V Z : Type 0} where
       )
 
   pub bordering_end : (old now : Node K V Z) (first last at : ℕ) → IsBordering old now first last at 0 → length (own_pairs now) ≤ at
-      → (h : ℕ) → IsThinWithin h old first last → IsThin (suc h) now
+      → (h : ℕ) → IsUnderfullWithin h old first last → IsUnderfull (suc h) now
   bordering_end old now first last at b le h t =
-      rebalanced_all (AreThinFirst h 0) h at now b.inner (omega arith) (b.levels h t)
+      rebalanced_all (AreUnderfullFirst h 0) h at now b.inner (omega arith) (b.levels h t)

@@ -13,9 +13,9 @@ use Rattle.fc_tree_node.proofs.Formed.{leaf_or_inner}
 use Rattle.fc_tree_node.proofs.Lists.{length_take, length_set, all_front, all_back, all_at}
 use Rattle.fc_tree_node.proofs.Gaps.{item_there, drop_all}
 use Rattle.fc_tree_node.proofs.Siblings.{one_at, set_two, set_removed}
-use Rattle.fc_tree_retain.specs.Rebalancing.{IsThin, IsSeam, IsMet, IsOneMet, AreTwoMet, together}
+use Rattle.fc_tree_retain.specs.Rebalancing.{IsUnderfull, IsSeam, IsMet, IsOneMet, AreTwoMet, together}
 use Rattle.fc_tree_retain.proofs.Lists.{at_place, take_place, drop_place, longer}
-use Rattle.fc_tree_retain.proofs.Levels.{levelled_thin}
+use Rattle.fc_tree_retain.proofs.Levels.{levelled_underfull}
 
 module _ {K V Z : Type 0} where
   -- the children before the last one, and the last one
@@ -25,10 +25,10 @@ module _ {K V Z : Type 0} where
     pub children : children_of n ≡ before ++ last ∷ []
     pub size : length before ≡ length (own_pairs n)
     pub all : AllByRecursion (IsSound h) before
-    pub thin : IsThin h last
+    pub underfull : IsUnderfull h last
     pub sound : 1 ≤ length (own_pairs n) → IsSound h last
 
-  ending : (h : ℕ) (n : Node K V Z) → IsThin (suc h) n → IsEnding h n
+  ending : (h : ℕ) (n : Node K V Z) → IsUnderfull (suc h) n → IsEnding h n
   ending h n (f, i, inl a) =
       let k : length (children_of n) ≡ length (own_pairs n) + 1 = i in
       let o = length (own_pairs n) in
@@ -41,7 +41,7 @@ module _ {K V Z : Type 0} where
         children = e;
         size = length_take o (children_of n) (omega arith);
         all = all_front (IsSound h) (take o (children_of n)) (child_at n o ∷ []) (subst (AllByRecursion (IsSound h)) e a);
-        thin = levelled_thin h (child_at n o) s.1;
+        underfull = levelled_underfull h (child_at n o) s.1;
         sound = λ _. s;
       }
   ending h n (f, i, inr z) =
@@ -53,7 +53,7 @@ module _ {K V Z : Type 0} where
         children = one_at (children_of n) 0 n (omega arith) ∙ ap (λ cs. child_at n 0 ∷ cs) (drop_all (children_of n) 1 (omega arith));
         size = sym none;
         all = tt;
-        thin = z.1;
+        underfull = z.1;
         sound = λ some. absurd (omega arith);
       }
 
@@ -64,10 +64,10 @@ module _ {K V Z : Type 0} where
     pub children : children_of n ≡ first ∷ after
     pub size : length after ≡ length (own_pairs n)
     pub all : AllByRecursion (IsSound h) after
-    pub thin : IsThin h first
+    pub underfull : IsUnderfull h first
     pub sound : 1 ≤ length (own_pairs n) → IsSound h first
 
-  beginning : (h : ℕ) (n : Node K V Z) → IsThin (suc h) n → IsBeginning h n
+  beginning : (h : ℕ) (n : Node K V Z) → IsUnderfull (suc h) n → IsBeginning h n
   beginning h n (f, i, inl a) =
       let k : length (children_of n) ≡ length (own_pairs n) + 1 = i in
       let e : children_of n ≡ child_at n 0 ∷ drop 1 (children_of n) = one_at (children_of n) 0 n (omega arith) in
@@ -79,8 +79,8 @@ module _ {K V Z : Type 0} where
         children = e;
         size = omega arith;
         all = b.1;
-        thin =
-            levelled_thin h (child_at n 0) b.0.1;
+        underfull =
+            levelled_underfull h (child_at n 0) b.0.1;
         sound = λ _. b.0;
       }
   beginning h n (f, i, inr z) =
@@ -92,13 +92,13 @@ module _ {K V Z : Type 0} where
         children = one_at (children_of n) 0 n (omega arith) ∙ ap (λ cs. child_at n 0 ∷ cs) (drop_all (children_of n) 1 (omega arith));
         size = sym none;
         all = tt;
-        thin = z.1;
+        underfull = z.1;
         sound = λ some. absurd (omega arith);
       }
 
   met_of : (g : ℕ) (n : Node K V Z) (i : ℕ) (A : List (Node K V Z)) (a b : Node K V Z) (B : List (Node K V Z)) → children_of n ≡ A ++ a ∷ b ∷ B → length A ≡ i
       → length (own_pairs n) ≤ capacity → IsInner n
-      → AllByRecursion (IsSound g) A → IsThin g a → IsThin g b → AllByRecursion (IsSound g) B → (2 ≤ length (own_pairs n) → IsSound g a ⊎ IsSound g b)
+      → AllByRecursion (IsSound g) A → IsUnderfull g a → IsUnderfull g b → AllByRecursion (IsSound g) B → (2 ≤ length (own_pairs n) → IsSound g a ⊎ IsSound g b)
       → IsMet (suc g) i n
   met_of g n i A a b B e z fits inner al ta tb bl one =
       let k : length (children_of n) ≡ length (own_pairs n) + 1 = inner in
@@ -113,8 +113,8 @@ module _ {K V Z : Type 0} where
           fits = fits;
           inner = inner;
           before = subst (AllByRecursion (IsSound g)) (sym (ap (take i) e ∙ take_place A (a ∷ b ∷ B) i z)) al;
-          left = subst (IsThin g) (sym la) ta;
-          right = subst (IsThin g) (sym lb) tb;
+          left = subst (IsUnderfull g) (sym la) ta;
+          right = subst (IsUnderfull g) (sym lb) tb;
         },
         subst (AllByRecursion (IsSound g)) (sym rest) bl,
         λ two. subst (λ x. IsSound g (child_at n i) ⊎ IsSound g x) (sym lb) (subst (λ x. IsSound g x ⊎ IsSound g b) (sym la) (one two)),
@@ -146,7 +146,7 @@ module _ {K V Z : Type 0} where
         size = omega arith;
       }
     where
-      go : (h : ℕ) → IsThin h (child_at old i) → IsThin h (child_at old (i + 1)) → AreAlike (child_at old i) m.whole
+      go : (h : ℕ) → IsUnderfull h (child_at old i) → IsUnderfull h (child_at old (i + 1)) → AreAlike (child_at old i) m.whole
           → length (own_pairs m.whole) ≡ together old i → IsMet h (length (own_pairs (child_at old i))) m.whole
       go zero l r (inl x) z = (omega arith, x.1)
       go zero l r (inr x) z = absurd (leaf_or_inner (child_at old i) l.1 x.0)
@@ -156,7 +156,7 @@ module _ {K V Z : Type 0} where
           let b = beginning g (child_at old (i + 1)) r in
           let cs : children_of m.whole ≡ e.before ++ e.last ∷ b.first ∷ b.after = m.below ∙ ap (λ xs. xs ++ children_of (child_at old (i + 1))) e.children
           ∙ ap (λ ys. (e.before ++ e.last ∷ []) ++ ys) b.children ∙ append_assoc e.before (e.last ∷ []) (b.first ∷ b.after) in
-          met_of g m.whole (length (own_pairs (child_at old i))) e.before e.last b.first b.after cs e.size (omega arith) x.1 e.all e.thin b.thin b.all
+          met_of g m.whole (length (own_pairs (child_at old i))) e.before e.last b.first b.after cs e.size (omega arith) x.1 e.all e.underfull b.underfull b.all
           (λ two. one_sound g (child_at old i) (child_at old (i + 1)) e b (omega arith))
 
   -- the children of both, whichever has how many
@@ -193,7 +193,7 @@ module _ {K V Z : Type 0} where
         sound = both.1;
       }
     where
-      go : (h : ℕ) → IsThin h (child_at old i) → IsThin h (child_at old (i + 1)) → AreAlike (child_at old i) m.left → AreAlike m.left m.right
+      go : (h : ℕ) → IsUnderfull h (child_at old i) → IsUnderfull h (child_at old (i + 1)) → AreAlike (child_at old i) m.left → AreAlike m.left m.right
           → IsMet h (length (own_pairs (child_at old i))) m.left × IsSound h m.right
       go zero l r (inl x) (inl y) = let t = sizes i k old new m in ((omega arith, x.1), (omega arith, (omega arith, y.1)))
       go zero l r (inl x) (inr y) = absurd (leaf_or_inner m.left x.1 y.0)
@@ -211,7 +211,7 @@ module _ {K V Z : Type 0} where
           (parted g L R m.left m.right e b m.below ∙ sym (append_assoc e.before (e.last ∷ b.first ∷ []) b.after)) (omega arith) in
           let rest = subst (AllByRecursion (IsSound g)) p.rest b.all in
           let cs : children_of m.left ≡ e.before ++ e.last ∷ b.first ∷ p.more = p.first ∙ append_assoc e.before (e.last ∷ b.first ∷ []) p.more in (
-            met_of g m.left (length (own_pairs L)) e.before e.last b.first p.more cs e.size (omega arith) y.0 e.all e.thin b.thin
+            met_of g m.left (length (own_pairs L)) e.before e.last b.first p.more cs e.size (omega arith) y.0 e.all e.underfull b.underfull
                 (all_front (IsSound g) p.more (children_of m.right) rest) (λ _. inr (b.sound (omega arith))),
             (omega arith, (omega arith, y.1, all_back (IsSound g) p.more (children_of m.right) rest)),
           )
@@ -235,7 +235,7 @@ module _ {K V Z : Type 0} where
         sound = both.1;
       }
     where
-      go : (h : ℕ) → IsThin h (child_at old i) → IsThin h (child_at old (i + 1)) → AreAlike (child_at old i) m.left → AreAlike m.left m.right
+      go : (h : ℕ) → IsUnderfull h (child_at old i) → IsUnderfull h (child_at old (i + 1)) → AreAlike (child_at old i) m.left → AreAlike m.left m.right
           → IsMet h j m.right × IsSound h m.left
       go zero l r (inl x) (inl y) = let t = sizes i k old new m in ((omega arith, y.1), (omega arith, (omega arith, x.1)))
       go zero l r (inl x) (inr y) = absurd (leaf_or_inner m.left x.1 y.0)
@@ -253,6 +253,6 @@ module _ {K V Z : Type 0} where
           let pl = ap length p.first ∙ length-append (children_of m.left) p.more in
           let all = subst (AllByRecursion (IsSound g)) p.first e.all in (
             met_of g m.right j p.more e.last b.first b.after p.rest (omega arith) (omega arith) y.1 (all_back (IsSound g) (children_of m.left) p.more all)
-                e.thin b.thin b.all (λ _. inl (e.sound (omega arith))),
+                e.underfull b.underfull b.all (λ _. inl (e.sound (omega arith))),
             (omega arith, (omega arith, y.0, all_front (IsSound g) (children_of m.left) p.more all)),
           )

@@ -61,7 +61,7 @@ module _ {K V Z : Type 0} where
   before_next A c P q e = ap (λ cs. before_list cs (P ++ q ∷ [])) (map-append pairs_of A (c ∷ []))
       ∙ before_more (map pairs_of A) (pairs_of c) P q (length-map A pairs_of ∙ e)
 
-  -- at a child with a pair behind it
+  -- at a child with a pair after it
   pub opened_two : (n : Node K V Z) (i : ℕ) (e : K × V) → IsInner n → i < length (own_pairs n) → e ≡ get_or (own_pairs n) i e
       → IsOpenAt n i (take i (children_of n)) (child_at n i) (child_at n (i + 1) ∷ drop (suc (suc i)) (children_of n)) (take i (own_pairs n))
       (e ∷ drop (suc i) (own_pairs n))

@@ -18,12 +18,12 @@ use Rattle.fc_tree_node.proofs.Formed.{leaf_or_inner}
 use Rattle.fc_tree_node.proofs.Gaps.{inner_gap, after_none}
 use Rattle.fc_tree_search.specs.Written.{set_value, with_value}
 use Rattle.fc_tree_search.proofs.WrittenPairs.{value_own, value_children, value_size}
-use Rattle.fc_tree_retain.specs.Loose.{IsLoose}
-use Rattle.fc_tree_retain.specs.Rebalancing.{IsThin}
+use Rattle.fc_tree_retain.specs.Unbalanced.{IsUnbalanced}
+use Rattle.fc_tree_retain.specs.Rebalancing.{IsUnderfull}
 use Rattle.fc_tree_retain.specs.Retained.{RetainsInTurn}
 use Rattle.fc_tree_retain.specs.Filtered.{IsPassed, IsOwnPassed}
-use Rattle.fc_tree_retain.specs.Stretch.{IsPartFiltered}
-use Rattle.fc_tree_retain.proofs.Levels.{loose_child, only_thin}
+use Rattle.fc_tree_retain.specs.Stretch.{IsLeafRangeFiltered}
+use Rattle.fc_tree_retain.proofs.Levels.{unbalanced_child, only_underfull}
 use Rattle.fc_tree_retain.proofs.Lists.{at_place, drop_place, set_place, remove_place}
 use Rattle.fc_tree_retain.proofs.Turns.{retains_join, retains_one, retains_none}
 use Rattle.fc_tree_retain.proofs.Opened.{IsOpenAt, open_before, open_child, open_after, open_inner, open_next, before_next, opened_two}
@@ -65,7 +65,7 @@ module _ {K V Z : Type 0} where
             ∙ get_or_default (children_of old) i mid old (omega arith);
       }
 
-  pub written_leaf : (old mid : Node K V Z) (i : ℕ) (w : V) → IsLoose 0 old → mid ≡ with_value old i w → IsLoose 0 mid
+  pub written_leaf : (old mid : Node K V Z) (i : ℕ) (w : V) → IsUnbalanced 0 old → mid ≡ with_value old i w → IsUnbalanced 0 mid
   written_leaf old mid i w l n =
       let z = (is_written old mid i w n).size in
       (omega arith, ap (λ m. (out-Node K V Z m).children) n ∙ field_made _ ∙ l.1)
@@ -77,7 +77,7 @@ module _ {K V Z : Type 0} where
     pub after : after_child mid i ≡ after_child old i
     pub own : own_pairs mid ≡ own_pairs old
     pub inner : IsInner mid
-    pub levels : (h : ℕ) → IsLoose (suc h) old → IsLoose h c → IsLoose (suc h) mid
+    pub levels : (h : ℕ) → IsUnbalanced (suc h) old → IsUnbalanced h c → IsUnbalanced (suc h) mid
 
   pub child_left : (old mid c : Node K V Z) (i : ℕ) → IsInner old → i ≤ length (own_pairs old) → IsReplaced old mid i c → IsChildLeft old mid c i
   child_left old mid c i inner le m =
@@ -88,7 +88,7 @@ module _ {K V Z : Type 0} where
         after = m.after;
         own = m.same;
         inner = m.inner inner;
-        levels = λ h l b. (omega (arith, m.size, l.0), m.inner inner, replaced_all (IsLoose h) m l.2 b);
+        levels = λ h l b. (omega (arith, m.size, l.0), m.inner inner, replaced_all (IsUnbalanced h) m l.2 b);
       }
 
   -- a node with another value, and another child before it
@@ -108,11 +108,11 @@ module _ {K V Z : Type 0} where
         inner = (child_left new mid c i (n.inner inner) (omega arith) m).inner;
       }
 
-  pub child_loose : (h : ℕ) (old mid d c : Node K V Z) (i : ℕ) → IsInner old → i ≤ length (own_pairs old) → d ≡ child_at old i → IsReplaced old mid i c
-      → ((g : ℕ) → IsLoose g d → IsLoose g c) → IsLoose h old → IsLoose h mid
-  child_loose zero old mid d c i inner le is m lo l = absurd (leaf_or_inner old l.1 inner)
-  child_loose (suc h) old mid d c i inner le is m lo l = (child_left old mid c i inner le m).levels h l
-      (lo h (subst (IsLoose h) (sym is) (loose_child h old i l le)))
+  pub child_unbalanced : (h : ℕ) (old mid d c : Node K V Z) (i : ℕ) → IsInner old → i ≤ length (own_pairs old) → d ≡ child_at old i → IsReplaced old mid i c
+      → ((g : ℕ) → IsUnbalanced g d → IsUnbalanced g c) → IsUnbalanced h old → IsUnbalanced h mid
+  child_unbalanced zero old mid d c i inner le is m lo l = absurd (leaf_or_inner old l.1 inner)
+  child_unbalanced (suc h) old mid d c i inner le is m lo l = (child_left old mid c i inner le m).levels h l
+      (lo h (subst (IsUnbalanced h) (sym is) (unbalanced_child h old i l le)))
 
   -- a node's pairs around a child
   last_pairs : (n : Node K V Z) (i : ℕ) → IsInner n → i ≡ length (own_pairs n) → pairs_of n ≡ before_child n i ++ pairs_of (child_at n i)
@@ -154,20 +154,22 @@ module _ {K V Z : Type 0} where
       let m = last_left old mid d c i l in
       ap (λ j. pairs_of (child_at mid j)) (ap length m.own ∙ sym l.last) ∙ ap pairs_of m.child ∙ p
 
-  pub last_loose : (h : ℕ) (old mid d c : Node K V Z) (i : ℕ) → IsLastLent old mid d c i → ((g : ℕ) → IsLoose g d → IsLoose g c) → IsLoose h old → IsLoose h mid
-  last_loose h old mid d c i l lo b = child_loose h old mid d c i l.inner (omega arith) l.is l.set lo b
+  pub last_unbalanced : (h : ℕ) (old mid d c : Node K V Z) (i : ℕ) → IsLastLent old mid d c i → ((g : ℕ) → IsUnbalanced g d → IsUnbalanced g c)
+      → IsUnbalanced h old → IsUnbalanced h mid
+  last_unbalanced h old mid d c i l lo b = child_unbalanced h old mid d c i l.inner (omega arith) l.is l.set lo b
 
-  pub last_thin : (h : ℕ) (old mid d c : Node K V Z) → IsLastLent old mid d c 0 → ((g : ℕ) → IsThin g d → IsThin g c) → IsThin h old → IsThin h mid
-  last_thin zero old mid d c l lo t = absurd (leaf_or_inner old t.1 l.inner)
-  last_thin (suc h) old mid d c l lo t =
+  pub last_underfull : (h : ℕ) (old mid d c : Node K V Z) → IsLastLent old mid d c 0 → ((g : ℕ) → IsUnderfull g d → IsUnderfull g c) → IsUnderfull h old
+      → IsUnderfull h mid
+  last_underfull zero old mid d c l lo t = absurd (leaf_or_inner old t.1 l.inner)
+  last_underfull (suc h) old mid d c l lo t =
       let m = last_left old mid d c 0 l in
       let o : length (own_pairs mid) ≡ length (own_pairs old) = ap length m.own in
-      (omega arith, m.inner, inr (omega arith, subst (IsThin h) (sym m.child) (lo h (subst (IsThin h) (sym l.is) (only_thin h old t)))))
+      (omega arith, m.inner, inr (omega arith, subst (IsUnderfull h) (sym m.child) (lo h (subst (IsUnderfull h) (sym l.is) (only_underfull h old t)))))
 
-  -- the own last pair, and an empty child behind it
+  -- the own last pair, and an empty child after it
   pub record IsEndOff (old new : Node K V Z) (x : K × V) : Type 0 where
     pub pairs : pairs_of old ≡ pairs_of new ++ x ∷ []
-    pub levels : (h : ℕ) → IsLoose h old → IsLoose h new
+    pub levels : (h : ℕ) → IsUnbalanced h old → IsUnbalanced h new
 
   pub end_off : (old new c : Node K V Z) (x : K × V) → IsInner old → pairs_of (child_at old (length (own_pairs old))) ≡ []
       → own_pairs old ≡ own_pairs new ++ x ∷ [] → children_of old ≡ children_of new ++ c ∷ [] → IsEndOff old new x
@@ -188,13 +190,13 @@ module _ {K V Z : Type 0} where
         levels = go;
       }
     where
-      go : (h : ℕ) → IsLoose h old → IsLoose h new
+      go : (h : ℕ) → IsUnbalanced h old → IsUnbalanced h new
       go zero l = absurd (leaf_or_inner old l.1 inner)
       go (suc h) l =
           let k : length (children_of old) ≡ length (own_pairs old) + 1 = inner in
           let a = ap length e ∙ length-append (own_pairs new) (x ∷ []) in
           let b = ap length f ∙ length-append (children_of new) (c ∷ []) in
-          (omega arith, omega arith, all_front (IsLoose h) (children_of new) (c ∷ []) (subst (AllByRecursion (IsLoose h)) f l.2))
+          (omega arith, omega arith, all_front (IsUnbalanced h) (children_of new) (c ∷ []) (subst (AllByRecursion (IsUnbalanced h)) f l.2))
 
 module _ {S K V : Type 0} (R : S → K × V → S → V → Bool → Type 0) where
   -- the pairs of a leaf before a place were asked, but for some first ones; so many last ones are not asked
@@ -289,7 +291,7 @@ module _ {S K V : Type 0} (R : S → K × V → S → V → Bool → Type 0) whe
 
   -- those of a part were
   pub part_end : (i j last : ℕ) (s t : S) (old now : List (K × V)) (at : ℕ) → i ≤ length old → last + j ≡ length old
-      → IsLeafFiltered (take i old) last s t old now at 0 → IsPartFiltered R s t i j old now
+      → IsLeafFiltered (take i old) last s t old now at 0 → IsLeafRangeFiltered R s t i j old now
   part_end i j last s t old now at le e l =
       let whole : old ≡ (take i old ++ l.seen) ++ l.rest = l.old_is ∙ sym (append_assoc (take i old) l.seen l.rest) in
       let sizes = ap length whole ∙ length-append (take i old ++ l.seen) l.rest in
@@ -303,7 +305,7 @@ module _ {S K V : Type 0} (R : S → K × V → S → V → Bool → Type 0) whe
       }
 
 module _ {S K V Z : Type 0} (R : S → K × V → S → V → Bool → Type 0) where
-  -- the pair behind a child was asked: what the node then is
+  -- the pair after a child was asked: what the node then is
   module _ (L : ℕ → Node K V Z → Type 0) (s t : S) (i : ℕ) (old new : Node K V Z) (e : K × V) (inner : IsInner old) (lt : i < length (own_pairs old))
       (q : e ≡ get_or (own_pairs old) i e) where
     abbrev A : List (Node K V Z)
@@ -410,18 +412,18 @@ module _ {S K V Z : Type 0} (R : S → K × V → S → V → Bool → Type 0) w
         (ap (λ B. before_list (map pairs_of B) P) none ∙ sym (append-nil (before_list (map pairs_of A) P))
         ∙ ap (λ zs. before_list (map pairs_of A) P ++ zs) (sym (ap (λ zs. zs ++ []) pe))) (omega arith) (λ h x. tt)
 
-  -- so the node is as loose as it was
-  passed_loose : (s t : S) (i j : ℕ) (old new : Node K V Z) → IsInner old → i < length (own_pairs old) → IsPassed IsLoose R s t i j old new → (h : ℕ)
-      → IsLoose h old → IsLoose h new
-  passed_loose s t i j old new inner lt p zero l = absurd (leaf_or_inner old l.1 inner)
-  passed_loose s t i j old new inner lt p (suc h) l =
+  -- so the node is as unbalanced as it was
+  passed_unbalanced : (s t : S) (i j : ℕ) (old new : Node K V Z) → IsInner old → i < length (own_pairs old) → IsPassed IsUnbalanced R s t i j old new → (h : ℕ)
+      → IsUnbalanced h old → IsUnbalanced h new
+  passed_unbalanced s t i j old new inner lt p zero l = absurd (leaf_or_inner old l.1 inner)
+  passed_unbalanced s t i j old new inner lt p (suc h) l =
       let cs = children_of old in
-      let front = all_take (IsLoose h) i cs l.2 in
-      let back = all_drop (IsLoose h) (suc i) cs l.2 in (
+      let front = all_take (IsUnbalanced h) i cs l.2 in
+      let back = all_drop (IsUnbalanced h) (suc i) cs l.2 in (
         omega arith,
         p.inner,
-        subst (AllByRecursion (IsLoose h)) (sym p.children) (all_both (IsLoose h) (take i cs) _ front (all_both (IsLoose h) p.kept _
-            (p.levels h (loose_child h old i l (omega arith))) back)),
+        subst (AllByRecursion (IsUnbalanced h)) (sym p.children) (all_both (IsUnbalanced h) (take i cs) _ front (all_both (IsUnbalanced h) p.kept _
+            (p.levels h (unbalanced_child h old i l (omega arith))) back)),
       )
 
   -- the pairs before a child were asked
@@ -431,7 +433,7 @@ module _ {S K V Z : Type 0} (R : S → K × V → S → V → Bool → Type 0) w
     pub filters : RetainsInTurn R s seen t (before_child now at)
     pub left_is : length (own_pairs now) ≡ at + left
     pub inner : IsInner now
-    pub levels : (h : ℕ) → IsLoose h old → IsLoose h now
+    pub levels : (h : ℕ) → IsUnbalanced h old → IsUnbalanced h now
 
   pub filtering_start : (s : S) (n : Node K V Z) (left : ℕ) → IsInner n → length (own_pairs n) ≡ left → IsFiltering s s n n 0 left
   filtering_start s n left inner e = record {
@@ -443,10 +445,11 @@ module _ {S K V Z : Type 0} (R : S → K × V → S → V → Bool → Type 0) w
     levels = λ h l. l;
   }
 
-  -- a child, and the pair behind it
+  -- a child, and the pair after it
   pub filtering_more : (s t u v : S) (old now mid new dold dnew : Node K V Z) (at left left' j : ℕ) → IsFiltering s t old now at left → left ≡ left' + 1
-      → dold ≡ child_at now at → IsReplaced now mid at dnew → RetainsInTurn R t (pairs_of dold) u (pairs_of dnew) → ((h : ℕ) → IsLoose h dold → IsLoose h dnew)
-      → IsPassed IsLoose R u v at j mid new → IsFiltering s v old new j left'
+      → dold ≡ child_at now at → IsReplaced now mid at dnew → RetainsInTurn R t (pairs_of dold) u (pairs_of dnew)
+      → ((h : ℕ) → IsUnbalanced h dold → IsUnbalanced h dnew)
+      → IsPassed IsUnbalanced R u v at j mid new → IsFiltering s v old new j left'
   filtering_more s t u v old now mid new dold dnew at left left' j g k is m r lo p =
       let c = child_left now mid dnew at g.inner (omega arith) m in
       let o : length (own_pairs mid) ≡ length (own_pairs now) = ap length m.same in
@@ -468,20 +471,20 @@ module _ {S K V Z : Type 0} (R : S → K × V → S → V → Bool → Type 0) w
         levels = go;
       }
     where
-      go : (h : ℕ) → IsLoose h old → IsLoose h new
+      go : (h : ℕ) → IsUnbalanced h old → IsUnbalanced h new
       go h l =
           let c = child_left now mid dnew at g.inner (omega arith) m in
           let o : length (own_pairs mid) ≡ length (own_pairs now) = ap length m.same in
-          passed_loose u v at j mid new c.inner (omega arith) p h (child_loose h now mid dold dnew at g.inner (omega arith) is m lo (g.levels h l))
+          passed_unbalanced u v at j mid new c.inner (omega arith) p h (child_unbalanced h now mid dold dnew at g.inner (omega arith) is m lo (g.levels h l))
 
   pub record IsAllFiltered (s t : S) (old new : Node K V Z) : Type 0 where
     pub filters : RetainsInTurn R s (pairs_of old) t (pairs_of new)
-    pub levels : (h : ℕ) → IsLoose h old → IsLoose h new
+    pub levels : (h : ℕ) → IsUnbalanced h old → IsUnbalanced h new
 
   -- the last child
   pub filtering_end : (s t u : S) (old now new dold dnew : Node K V Z) (at : ℕ) → IsFiltering s t old now at 0 → dold ≡ child_at now at → IsReplaced now new
       at dnew
-      → RetainsInTurn R t (pairs_of dold) u (pairs_of dnew) → ((h : ℕ) → IsLoose h dold → IsLoose h dnew) → IsAllFiltered s u old new
+      → RetainsInTurn R t (pairs_of dold) u (pairs_of dnew) → ((h : ℕ) → IsUnbalanced h dold → IsUnbalanced h dnew) → IsAllFiltered s u old new
   filtering_end s t u old now new dold dnew at g is m r lo =
       let c = child_left now new dnew at g.inner (omega arith) m in
       let o : length (own_pairs new) ≡ length (own_pairs now) = ap length m.same in
@@ -493,5 +496,5 @@ module _ {S K V Z : Type 0} (R : S → K × V → S → V → Bool → Type 0) w
         filters = subst (λ x. RetainsInTurn R s x u (pairs_of new)) (sym was)
             (subst (λ x. RetainsInTurn R s (g.seen ++ pairs_of dold) u x) (sym is')
             (retains_join R g.seen (pairs_of dold) (before_child now at) (pairs_of dnew) s t u g.filters r));
-        levels = λ h l. child_loose h now new dold dnew at g.inner (omega arith) is m lo (g.levels h l);
+        levels = λ h l. child_unbalanced h now new dold dnew at g.inner (omega arith) is m lo (g.levels h l);
       }

@@ -11,10 +11,10 @@ use Rattle.fc_tree_node.proofs.Lists.{length_take, length_set, all_both}
 use Rattle.fc_tree_node.proofs.Gaps.{drop_all}
 use Rattle.fc_tree_node.proofs.Siblings.{one_at, two_at}
 use Rattle.fc_tree_node.proofs.Lent.{lent_is, replaced_same, IsReplaced}
-use Rattle.fc_tree_retain.specs.Loose.{IsLoose}
-use Rattle.fc_tree_retain.specs.Rebalancing.{IsThin, IsSeam, IsMet, IsSeamRebalanced, IsJoined, together}
+use Rattle.fc_tree_retain.specs.Unbalanced.{IsUnbalanced}
+use Rattle.fc_tree_retain.specs.Rebalancing.{IsUnderfull, IsSeam, IsMet, IsSeamRebalanced, IsJoined, together}
 use Rattle.fc_tree_retain.proofs.Lists.{at_place, take_place, drop_place, set_place}
-use Rattle.fc_tree_retain.proofs.Levels.{thin_sound, levelled_thin, loose_child}
+use Rattle.fc_tree_retain.proofs.Levels.{underfull_sound, levelled_underfull, unbalanced_child}
 
 module _ {K V Z : Type 0} where
   -- neither of the two was short
@@ -29,7 +29,7 @@ module _ {K V Z : Type 0} where
           children = two_at (children_of n) i n (omega arith);
           own = refl;
           sound =
-              (thin_sound h _ l s.left, thin_sound h _ r s.right);
+              (underfull_sound h _ l s.left, underfull_sound h _ r s.right);
         },
       )
 
@@ -110,7 +110,7 @@ module _ {K V Z : Type 0} where
 
   -- once those that meet are rebalanced, the child is whole but for how many pairs it has
   pub record IsMetLeft (h : ℕ) (c c' : Node K V Z) : Type 0 where
-    pub thin : IsThin h c'
+    pub underfull : IsUnderfull h c'
     pub kept : length (own_pairs c) ≤ length (own_pairs c') + 1
 
   pub met_left : (g seam j : ℕ) (c c' : Node K V Z) → IsMet (suc g) seam c → IsSeamRebalanced g seam j c c' → IsMetLeft (suc g) c c'
@@ -123,13 +123,13 @@ module _ {K V Z : Type 0} where
           ∙ ap (λ ds. o.whole ∷ ds) (drop_all (children_of c) 2 (omega arith)) in
           let n = ap length e in
           let is : child_at c' 0 ≡ o.whole = ap (λ cs. get_or cs 0 c') e in
-          record { thin = (omega arith, omega arith, inr (z, subst (IsThin g) (sym is) o.thin)); kept = omega arith }
+          record { underfull = (omega arith, omega arith, inr (z, subst (IsUnderfull g) (sym is) o.underfull)); kept = omega arith }
       go (suc m) z =
           let a = around (children_of c) seam (omega arith) in
           let n = ap length o.children ∙ length-append (take seam (children_of c)) (o.whole ∷ drop (suc (suc seam)) (children_of c)) in
           let w = o.sound (one (omega arith)) in
           record {
-            thin = (
+            underfull = (
               omega arith,
               omega arith,
               inl (subst (AllByRecursion (IsSound g)) (sym o.children)
@@ -141,7 +141,7 @@ module _ {K V Z : Type 0} where
       let a = around (children_of c) seam (omega arith) in
       let n = ap length t.children ∙ length-append (take seam (children_of c)) (t.left ∷ t.right ∷ drop (suc (suc seam)) (children_of c)) in
       record {
-        thin = (
+        underfull = (
           omega arith,
           omega arith,
           inl (subst (AllByRecursion (IsSound g)) (sym t.children)
@@ -168,8 +168,8 @@ module _ {K V Z : Type 0} where
           whole = c';
           children = cs;
           own = omega arith;
-          thin = l.thin;
-          sound = λ u. thin_sound h c' (enough u (omega arith)) l.thin;
+          underfull = l.underfull;
+          sound = λ u. underfull_sound h c' (enough u (omega arith)) l.underfull;
         },
       )
     where
@@ -187,7 +187,7 @@ module _ {K V Z : Type 0} where
       enough : child_at mid place ≡ m.grown → IsSound h c'
       enough is =
           let wl : length (own_pairs (child_at mid place)) ≡ length (own_pairs m.grown) = ap (λ x. length (own_pairs x)) is in
-          thin_sound h c' (omega arith) l.thin
+          underfull_sound h c' (omega arith) l.underfull
 
       go : ((place ≡ i) × (children_of mid ≡ take i (children_of old) ++ m.grown ∷ m.other ∷ D))
           ⊎ ((place ≡ i + 1) × (children_of mid ≡ take i (children_of old) ++ m.other ∷ m.grown ∷ D)) → IsSeamRebalanced h i last old new
@@ -228,7 +228,7 @@ module _ {K V Z : Type 0} where
   pub record IsRebalancedTo (Q : List (Node K V Z) → Type 0) (h at : ℕ) (n : Node K V Z) : Type 0 where
     pub fits : length (own_pairs n) ≤ capacity
     pub before : AllByRecursion (IsSound h) (take at (children_of n))
-    pub thin : IsThin h (child_at n at)
+    pub underfull : IsUnderfull h (child_at n at)
     pub sound : 0 < at → IsSound h (child_at n at)
     pub after : Q (drop (suc at) (children_of n))
 
@@ -236,7 +236,7 @@ module _ {K V Z : Type 0} where
     pub pairs : pairs_of now ≡ pairs_of old
     pub left_is : length (own_pairs now) ≡ at + left
     pub inner : IsInner now
-    pub levels : (h : ℕ) → IsLoose (suc h) old → IsRebalancedTo (AllByRecursion (IsLoose h)) h at now
+    pub levels : (h : ℕ) → IsUnbalanced (suc h) old → IsRebalancedTo (AllByRecursion (IsUnbalanced h)) h at now
 
   pub all_from : (P : Node K V Z → Type 0) (cs : List (Node K V Z)) (i : ℕ) → AllByRecursion P cs → AllByRecursion P (drop i cs)
   all_from P cs zero a = a
@@ -244,7 +244,7 @@ module _ {K V Z : Type 0} where
   all_from P (c ∷ cs) (suc i) a = all_from P cs i a.1
 
   pub rebalancing_start : (old now d c : Node K V Z) (left : ℕ) → IsInner old → IsReplaced old now 0 c → d ≡ child_at old 0 → pairs_of c ≡ pairs_of d
-      → ((h : ℕ) → IsLoose h d → IsThin h c) → length (own_pairs now) ≡ left → IsRebalancing old now 0 left
+      → ((h : ℕ) → IsUnbalanced h d → IsUnderfull h c) → length (own_pairs now) ≡ left → IsRebalancing old now 0 left
   rebalancing_start old now d c left inner m is p th e =
       let k : length (children_of old) ≡ length (own_pairs old) + 1 = inner in
       let n : length (children_of now) ≡ length (children_of old) = ap length m.child ∙ length_set (children_of old) 0 c in
@@ -256,11 +256,11 @@ module _ {K V Z : Type 0} where
         levels = λ h l. let fits = l.0 in record {
           fits = omega arith;
           before = tt;
-          thin = subst (IsThin h) (sym (m.here (omega arith)))
-              (th h (subst (IsLoose h) (sym is) (loose_child h old 0 l (omega arith))));
+          underfull = subst (IsUnderfull h) (sym (m.here (omega arith)))
+              (th h (subst (IsUnbalanced h) (sym is) (unbalanced_child h old 0 l (omega arith))));
           sound = λ z. absurd (omega arith);
-          after = subst (AllByRecursion (IsLoose h)) (sym m.rest)
-              (all_from (IsLoose h) (children_of old) 1 l.2);
+          after = subst (AllByRecursion (IsUnbalanced h)) (sym m.rest)
+              (all_from (IsUnbalanced h) (children_of old) 1 l.2);
         };
       }
 
@@ -280,19 +280,19 @@ module _ {K V Z : Type 0} where
   get_next (y ∷ xs) zero x d e h = refl
   get_next (y ∷ xs) (suc i) x d e h = get_next xs i x d e (omega arith)
 
-  head_of : (h : ℕ) (cs : List (Node K V Z)) (d : Node K V Z) → 0 < length cs → AllByRecursion (IsLoose h) cs → IsLoose h (get_or cs 0 d)
+  head_of : (h : ℕ) (cs : List (Node K V Z)) (d : Node K V Z) → 0 < length cs → AllByRecursion (IsUnbalanced h) cs → IsUnbalanced h (get_or cs 0 d)
   head_of h [] d lt a = absurd (omega arith)
   head_of h (c ∷ cs) d lt a = a.0
 
-  pub next_loose : (h at : ℕ) (now : Node K V Z) → IsInner now → at < length (own_pairs now) → IsRebalancedTo (AllByRecursion (IsLoose h)) h at now
-      → IsLoose h (child_at now (at + 1))
-  next_loose h at now inner lt g = go (children_of now) at (let k : length (children_of now) ≡ length (own_pairs now) + 1 = inner in omega arith) g.after
+  pub next_unbalanced : (h at : ℕ) (now : Node K V Z) → IsInner now → at < length (own_pairs now) → IsRebalancedTo (AllByRecursion (IsUnbalanced h)) h at now
+      → IsUnbalanced h (child_at now (at + 1))
+  next_unbalanced h at now inner lt g = go (children_of now) at (let k : length (children_of now) ≡ length (own_pairs now) + 1 = inner in omega arith) g.after
     where
-      go : (cs : List (Node K V Z)) (i : ℕ) → i + 1 < length cs → AllByRecursion (IsLoose h) (drop (suc i) cs) → IsLoose h (get_or cs (i + 1) now)
+      go : (cs : List (Node K V Z)) (i : ℕ) → i + 1 < length cs → AllByRecursion (IsUnbalanced h) (drop (suc i) cs) → IsUnbalanced h (get_or cs (i + 1) now)
       go [] i lt a = absurd (omega arith)
       go (c ∷ cs) zero lt a = head_of h cs now (omega arith) a
       go (c ∷ cs) (suc i) lt a = let e : suc i + 1 ≡ suc (i + 1) = omega arith in
-          subst (λ j. IsLoose h (get_or (c ∷ cs) j now)) (sym e) (go cs i (omega arith) a)
+          subst (λ j. IsUnbalanced h (get_or (c ∷ cs) j now)) (sym e) (go cs i (omega arith) a)
 
   drop_one : (i : ℕ) (xs : List (Node K V Z)) → drop (suc (suc i)) xs ≡ drop 1 (drop (suc i) xs)
   drop_one i [] = refl
@@ -300,8 +300,8 @@ module _ {K V Z : Type 0} where
   drop_one (suc i) (x ∷ xs) = drop_one i xs
 
   pub next_rebalanced : (h at : ℕ) (now mid d c : Node K V Z) → IsInner now → at < length (own_pairs now)
-      → IsRebalancedTo (AllByRecursion (IsLoose h)) h at now → d ≡ child_at now (at + 1)
-      → IsReplaced now mid (at + 1) c → ((g : ℕ) → IsLoose g d → IsThin g c) → IsNextRebalanced (AllByRecursion (IsLoose h)) h at mid
+      → IsRebalancedTo (AllByRecursion (IsUnbalanced h)) h at now → d ≡ child_at now (at + 1)
+      → IsReplaced now mid (at + 1) c → ((g : ℕ) → IsUnbalanced g d → IsUnderfull g c) → IsNextRebalanced (AllByRecursion (IsUnbalanced h)) h at mid
   next_rebalanced h at now mid d c inner lt g is m th =
       let k : length (children_of now) ≡ length (own_pairs now) + 1 = inner in
       let one : at + 1 ≡ suc at = omega arith in
@@ -317,13 +317,13 @@ module _ {K V Z : Type 0} where
           fits = omega arith;
           inner = omega arith;
           before = subst (AllByRecursion (IsSound h)) (sym (ap (take at) e ∙ take_next (children_of now) at c)) g.before;
-          left = subst (IsThin h) (sym here) g.thin;
-          right = subst (IsThin h) (sym there) (th h (subst (IsLoose h) (sym is) (next_loose h at now inner lt g)));
+          left = subst (IsUnderfull h) (sym here) g.underfull;
+          right = subst (IsUnderfull h) (sym there) (th h (subst (IsUnbalanced h) (sym is) (next_unbalanced h at now inner lt g)));
         };
         sound = λ z. subst (IsSound h) (sym here) (g.sound z);
-        after = subst (AllByRecursion (IsLoose h))
+        after = subst (AllByRecursion (IsUnbalanced h))
             (sym (ap (drop (suc (suc at))) e ∙ drop-set-lt (suc (suc at)) (children_of now) (suc at) c (omega arith) ∙ drop_one at (children_of now)))
-            (all_from (IsLoose h) (drop (suc at) (children_of now)) 1 g.after);
+            (all_from (IsUnbalanced h) (drop (suc at) (children_of now)) 1 g.after);
       }
 
   -- and the two rebalanced
@@ -339,7 +339,7 @@ module _ {K V Z : Type 0} where
       subst (λ i. IsRebalancedTo Q h i new) (sym q) (record {
         fits = omega arith;
         before = subst (AllByRecursion (IsSound h)) (sym (ap (take at) o.children ∙ take_place A (o.whole ∷ D) at a.0)) s.before;
-        thin = subst (IsThin h) (sym is) o.thin;
+        underfull = subst (IsUnderfull h) (sym is) o.underfull;
         sound = λ z. subst (IsSound h) (sym is) (o.sound (inl (x.sound z)));
         after = subst Q (sym (ap (drop (suc at)) (o.children ∙ sym (append_assoc A (o.whole ∷ []) D))
             ∙ drop_place (A ++ o.whole ∷ []) D (suc at) (let t = length-append A (o.whole ∷ []) in omega arith))) x.after;
@@ -358,7 +358,7 @@ module _ {K V Z : Type 0} where
         fits = omega arith;
         before = subst (AllByRecursion (IsSound h)) (sym (ap (take (at + 1)) e ∙ take_place (A ++ o.left ∷ []) (o.right ∷ D) (at + 1) z))
             (all_both (IsSound h) A (o.left ∷ []) s.before (o.sound.0, tt));
-        thin = subst (IsThin h) (sym is) (levelled_thin h o.right o.sound.1.1);
+        underfull = subst (IsUnderfull h) (sym is) (levelled_underfull h o.right o.sound.1.1);
         sound = λ _. subst (IsSound h) (sym is) o.sound.1;
         after = subst Q (sym (ap (drop (suc (at + 1))) (e ∙ sym (append_assoc (A ++ o.left ∷ []) (o.right ∷ []) D))
             ∙ drop_place ((A ++ o.left ∷ []) ++ o.right ∷ []) D (suc (at + 1)) (let t = length-append (A ++ o.left ∷ []) (o.right ∷ []) in omega arith)))
@@ -376,8 +376,9 @@ module _ {K V Z : Type 0} where
       let n = ap length o.children ∙ length-append (take at (children_of mid)) (o.left ∷ o.right ∷ drop (suc (suc at)) (children_of mid)) in
       (omega arith, omega arith)
 
-  pub rebalancing_more : (old now mid new d c : Node K V Z) (at left left' j g : ℕ) → IsRebalancing old now at left → left ≡ left' + 1 → IsLoose (suc g) old
-      → d ≡ child_at now (at + 1) → IsReplaced now mid (at + 1) c → pairs_of c ≡ pairs_of d → ((h : ℕ) → IsLoose h d → IsThin h c)
+  pub rebalancing_more : (old now mid new d c : Node K V Z) (at left left' j g : ℕ) → IsRebalancing old now at left → left ≡ left' + 1
+      → IsUnbalanced (suc g) old
+      → d ≡ child_at now (at + 1) → IsReplaced now mid (at + 1) c → pairs_of c ≡ pairs_of d → ((h : ℕ) → IsUnbalanced h d → IsUnderfull h c)
       → pairs_of new ≡ pairs_of mid → ((h : ℕ) → IsSeam h mid at → IsSeamRebalanced h at j mid new) → IsRebalancing old new j left'
   rebalancing_more old now mid new d c at left left' j g x e l is m p th np st =
       let o : length (own_pairs mid) ≡ length (own_pairs now) = ap length m.same in
@@ -388,25 +389,25 @@ module _ {K V Z : Type 0} where
         left_is = omega arith;
         inner = z.1;
         levels = λ h b. let y = next_rebalanced h at now mid d c x.inner (omega arith) (x.levels h b) is m th in
-            seam_rebalanced_to (AllByRecursion (IsLoose h)) h at j mid new y (st h y.seam);
+            seam_rebalanced_to (AllByRecursion (IsUnbalanced h)) h at j mid new y (st h y.seam);
       }
 
   -- all are rebalanced
   pub rebalanced_all : (Q : List (Node K V Z) → Type 0) (h at : ℕ) (now : Node K V Z) → IsInner now → length (own_pairs now) ≡ at → IsRebalancedTo Q h at now
-      → IsThin (suc h) now
+      → IsUnderfull (suc h) now
   rebalanced_all Q h at now inner li g =
       let k : length (children_of now) ≡ length (own_pairs now) + 1 = inner in
       (g.fits, inner, go at (omega arith) g)
     where
       go : (at : ℕ) → length (children_of now) ≡ at + 1 → IsRebalancedTo Q h at now
-          → AllByRecursion (IsSound h) (children_of now) ⊎ ((length (own_pairs now) ≡ 0) × IsThin h (child_at now 0))
-      go zero n g = let k : length (children_of now) ≡ length (own_pairs now) + 1 = inner in inr (omega arith, g.thin)
+          → AllByRecursion (IsSound h) (children_of now) ⊎ ((length (own_pairs now) ≡ 0) × IsUnderfull h (child_at now 0))
+      go zero n g = let k : length (children_of now) ≡ length (own_pairs now) + 1 = inner in inr (omega arith, g.underfull)
       go (suc at) n g =
           let e : children_of now ≡ take (suc at) (children_of now) ++ child_at now (suc at) ∷ [] = one_at (children_of now) (suc at) now (omega arith)
           ∙ ap (λ ds. take (suc at) (children_of now) ++ child_at now (suc at) ∷ ds) (drop_all (children_of now) (suc (suc at)) (omega arith)) in
           inl (subst (AllByRecursion (IsSound h)) (sym e) (all_both (IsSound h) (take (suc at) (children_of now)) (child_at now (suc at) ∷ []) g.before
           (g.sound (omega arith), tt)))
 
-  pub rebalancing_end : (old now : Node K V Z) (at : ℕ) → IsRebalancing old now at 0 → (h : ℕ) → IsLoose (suc h) old → IsThin (suc h) now
+  pub rebalancing_end : (old now : Node K V Z) (at : ℕ) → IsRebalancing old now at 0 → (h : ℕ) → IsUnbalanced (suc h) old → IsUnderfull (suc h) now
   rebalancing_end old now at x h l =
-      rebalanced_all (AllByRecursion (IsLoose h)) h at now x.inner (omega arith) (x.levels h l)
+      rebalanced_all (AllByRecursion (IsUnbalanced h)) h at now x.inner (omega arith) (x.levels h l)

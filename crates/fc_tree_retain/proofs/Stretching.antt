@@ -1,85 +1,29 @@
 -- A walk over the pairs of a node between two gaps, of which some do not stay.
-use Rattle.std.proofs.Common.{◌≡◌, ℕ, suc, ◌+◌, ◌<◌, ◌≤◌, List, [], ◌∷◌, ◌++◌, length, get_or, map, take, drop, refl, sym, ap, subst, ◌∙◌, arith}
+use Rattle.std.proofs.Common.{◌≡◌, ℕ, suc, ◌+◌, ◌<◌, ◌≤◌, List, [], ◌∷◌, ◌++◌, length, get_or, take, drop, refl, sym, ap, subst, ◌∙◌, arith}
 use Rattle.std.proofs.Common.{append_assoc, append-nil, inl, inr, ◌⊎◌}
 use Rattle.std.specs.Prelude.{Bool}
 use Rattle.std.specs.List.{AllByRecursion}
-use Rattle.std.proofs.lemmas.List.{length-append, length-drop, drop-drop, nil_from_length}
-use Rattle.fc_tree_node.specs.Weave.{before_list, after_list}
+use Rattle.std.proofs.lemmas.List.{length-append, length-drop, drop-drop}
 use Rattle.fc_tree_node.specs.declared.node.Node.{Node}
 use Rattle.fc_tree_node.specs.Node.{own_pairs, children_of, child_at, pairs_of, IsLeaf, IsInner, IsLevelled, IsSound}
 use Rattle.fc_tree_node.specs.Path.{before_gap, after_gap}
 use Rattle.fc_tree_node.specs.Place.{before_child, after_child}
-use Rattle.fc_tree_node.proofs.Lists.{take_nil, drop_nil, length_take, take_drop, all_both, all_front, all_drop, all_each}
-use Rattle.fc_tree_node.proofs.Pairs.{leaf_children, leaf_pairs, child_below}
+use Rattle.fc_tree_node.proofs.Lists.{length_take, take_drop, all_both, all_front, all_drop, all_each}
+use Rattle.fc_tree_node.proofs.Pairs.{leaf_pairs, child_below}
 use Rattle.fc_tree_node.proofs.Lent.{IsAbove, above, IsReplaced}
-use Rattle.fc_tree_node.proofs.Gaps.{drop_item, cut_item, drop_all, inner_gap, after_none}
+use Rattle.fc_tree_node.proofs.Gaps.{drop_item, cut_item, inner_gap}
 use Rattle.fc_tree_removal.proofs.Removed.{none_leaf}
-use Rattle.fc_tree_retain.specs.Rebalancing.{IsThin}
+use Rattle.fc_tree_retain.specs.Rebalancing.{IsUnderfull}
 use Rattle.fc_tree_retain.specs.Retained.{RetainsInTurn}
 use Rattle.fc_tree_retain.specs.Filtered.{IsPassed}
-use Rattle.fc_tree_retain.specs.Stretch.{AreInOrder, IsEnd, IsPartFiltered, IsStretchFiltered, IsThinWithin}
-use Rattle.fc_tree_retain.proofs.Levels.{levelled_thin}
+use Rattle.fc_tree_cursor.specs.Ends.{AreInOrder, IsEnd}
+use Rattle.fc_tree_cursor.proofs.PathEnds.{order_onward, end_inside, ends_order, end_below, front_parts, back_parts, leaf_front, leaf_back}
+use Rattle.fc_tree_retain.specs.Stretch.{IsLeafRangeFiltered, IsRangeFiltered, IsUnderfullWithin}
+use Rattle.fc_tree_retain.proofs.Levels.{levelled_underfull}
 use Rattle.fc_tree_retain.proofs.Lists.{take_place, drop_place}
 use Rattle.fc_tree_retain.proofs.Opened.{IsOpenAt, open_child, open_after, open_inner}
 use Rattle.fc_tree_retain.proofs.Passing.{IsChildLeft, child_left}
 use Rattle.fc_tree_retain.proofs.Turns.{retains_join, retains_none}
-
-after_nothing : {X : Type 0} (xs : List X) → after_list xs [] ≡ xs
-after_nothing [] = refl
-after_nothing (x ∷ xs) = refl
-
--- nothing comes behind the end of a node
-pub order_open : (front : List ℕ) → AreInOrder front []
-order_open [] = tt
-order_open (i ∷ front) = tt
-
-pub order_onward : (front back : List ℕ) (m : ℕ) → AreInOrder front back → get_or front 0 0 ≡ get_or back 0 m → AreInOrder (drop 1 front) (drop 1 back)
-order_onward [] back m o e = tt
-order_onward (i ∷ front) [] m o e = order_open front
-order_onward (i ∷ front) (j ∷ back) m (inl lt) e = absurd (omega arith)
-order_onward (i ∷ front) (j ∷ back) m (inr o) e = o.1
-
-module _ {K V Z : Type 0} where
-  pub end_inside : (h : ℕ) (path : List ℕ) (n : Node K V Z) (m : ℕ) → IsEnd h path n → m ≤ length (own_pairs n) → get_or path 0 m ≤ length (own_pairs n)
-  end_inside h [] n m e le = le
-  end_inside h (i ∷ path) n m e le = e.0.0
-
-  pub ends_order : (h : ℕ) (front back : List ℕ) (n : Node K V Z) → IsEnd h front n → AreInOrder front back
-      → get_or front 0 0 ≤ get_or back 0 (length (own_pairs n))
-  ends_order h [] back n e o = omega arith
-  ends_order h (i ∷ front) [] n e o = e.0.0
-  ends_order h (i ∷ front) (j ∷ back) n e (inl lt) = omega arith
-  ends_order h (i ∷ front) (j ∷ back) n e (inr o) = omega arith
-
-  -- a path goes on in a child
-  pub end_below : (h : ℕ) (path : List ℕ) (n : Node K V Z) (m : ℕ) → IsEnd (suc h) path n → IsEnd h (drop 1 path) (child_at n (get_or path 0 m))
-  end_below h [] n m e = tt
-  end_below h (i ∷ []) n m e = absurd (omega arith)
-  end_below h (i ∷ j ∷ path) n m e = (e.0.1, omega arith)
-
-  front_parts : (front : List ℕ) (n : Node K V Z)
-      → before_gap front n ≡ before_child n (get_or front 0 0) ++ before_gap (drop 1 front) (child_at n (get_or front 0 0))
-  front_parts [] n = refl
-  front_parts (i ∷ front) n = refl
-
-  back_parts : (back : List ℕ) (n : Node K V Z) (i : ℕ) → i ≡ get_or back 0 (length (own_pairs n))
-      → after_gap (drop 1 back) (child_at n i) ++ after_child n i ≡ after_gap back n
-  back_parts [] n i e = after_none n i (omega arith)
-  back_parts (j ∷ back) n i e = ap (λ k. after_gap back (child_at n k) ++ after_child n k) e
-
-  -- a leaf's pairs on either side of a gap
-  leaf_before : (front : List ℕ) (n : Node K V Z) → IsLeaf n → IsEnd 0 front n → before_gap front n ≡ take (get_or front 0 0) (own_pairs n)
-  leaf_before [] n l e = refl
-  leaf_before (i ∷ front) n l e =
-      ap (λ p. before_child n i ++ before_gap p (child_at n i)) (nil_from_length front e.1) ∙ append-nil (before_child n i)
-      ∙ ap (λ cs. before_list (map pairs_of cs) (take i (own_pairs n))) (ap (take i) (leaf_children n l) ∙ take_nil i)
-
-  leaf_after : (back : List ℕ) (n : Node K V Z) → IsLeaf n → IsEnd 0 back n → after_gap back n ≡ drop (get_or back 0 (length (own_pairs n))) (own_pairs n)
-  leaf_after [] n l e = sym (drop_all (own_pairs n) (length (own_pairs n)) (omega arith))
-  leaf_after (j ∷ back) n l e =
-      ap (λ p. after_gap p (child_at n j) ++ after_child n j) (nil_from_length back e.1)
-      ∙ ap (λ cs. after_list (drop j (own_pairs n)) (map pairs_of cs)) (ap (drop (suc j)) (leaf_children n l) ∙ drop_nil (suc j))
-      ∙ after_nothing (drop j (own_pairs n))
 
 module _ {K V Z : Type 0} where
   pub level_above : (h : ℕ) (n : Node K V Z) → (IsLeaf n → ⊥) → IsLevelled h n → IsAbove IsLevelled h n
@@ -117,20 +61,20 @@ module _ {K V Z : Type 0} where
       }
 
 module _ {S K V Z : Type 0} (R : S → K × V → S → V → Bool → Type 0) where
-  pub seam_stretch : (s t : S) (front back : List ℕ) (old mid new : Node K V Z) → IsStretchFiltered R s t front back old mid → pairs_of new ≡ pairs_of mid
-      → IsStretchFiltered R s t front back old new
+  pub seam_stretch : (s t : S) (front back : List ℕ) (old mid new : Node K V Z) → IsRangeFiltered R s t front back old mid → pairs_of new ≡ pairs_of mid
+      → IsRangeFiltered R s t front back old new
   seam_stretch s t front back old mid new e q =
       record { asked = e.asked; stay = e.stay; filtered = e.filtered; before = e.before; after = q ∙ e.after }
 
   pub leaf_stretch : (h : ℕ) (s t : S) (front back : List ℕ) (i j : ℕ) (old new : Node K V Z) → IsLeaf old → IsLeaf new → IsLevelled h old → IsEnd h front old
-      → IsEnd h back old → i ≡ get_or front 0 0 → j ≡ get_or back 0 (length (own_pairs old)) → IsPartFiltered R s t i j (own_pairs old) (own_pairs new)
-      → IsStretchFiltered R s t front back old new
+      → IsEnd h back old → i ≡ get_or front 0 0 → j ≡ get_or back 0 (length (own_pairs old)) → IsLeafRangeFiltered R s t i j (own_pairs old) (own_pairs new)
+      → IsRangeFiltered R s t front back old new
   leaf_stretch h s t front back i j old new l l' lev ef eb ei ej p =
       let z = none_leaf h old l lev in
       let f : take i (own_pairs old) ≡ before_gap front old = ap (λ k. take k (own_pairs old)) ei
-      ∙ sym (leaf_before front old l (subst (λ k. IsEnd k front old) z ef)) in
+      ∙ sym (leaf_front front old l (subst (λ k. IsEnd k front old) z ef)) in
       let b : drop j (own_pairs old) ≡ after_gap back old = ap (λ k. drop k (own_pairs old)) ej
-      ∙ sym (leaf_after back old l (subst (λ k. IsEnd k back old) z eb)) in
+      ∙ sym (leaf_back back old l (subst (λ k. IsEnd k back old) z eb)) in
       record {
         asked = p.asked;
         stay = p.stay;
@@ -139,14 +83,14 @@ module _ {S K V Z : Type 0} (R : S → K × V → S → V → Bool → Type 0) w
         after = leaf_pairs new l' ∙ p.after ∙ ap (λ xs. xs ++ (p.stay ++ drop j (own_pairs old))) f ∙ ap (λ ys. before_gap front old ++ (p.stay ++ ys)) b;
       }
 
-  -- the pairs behind the first gap and before a child were asked; below that child, which was so many children further, a path leads to where it goes on
-  pub record IsStretching (s t : S) (front : List ℕ) (old now : Node K V Z) (ahead : List ℕ) (first counter at : ℕ) : Type 0 where
+  -- the pairs after the first gap and before a child were asked; below that child, which was so many children further, a path leads to where it goes on
+  pub record IsStretching (s t : S) (front : List ℕ) (old now : Node K V Z) (front_rest : List ℕ) (first counter at : ℕ) : Type 0 where
     pub seen : List (K × V)
     pub stay : List (K × V)
     pub filters : RetainsInTurn R s seen t stay
-    pub old_is : (ys : List (K × V)) → pairs_of (child_at old counter) ≡ before_gap ahead (child_at old counter) ++ ys
+    pub old_is : (ys : List (K × V)) → pairs_of (child_at old counter) ≡ before_gap front_rest (child_at old counter) ++ ys
         → pairs_of old ≡ before_gap front old ++ (seen ++ (ys ++ after_child old counter))
-    pub front_is : before_child now at ++ before_gap ahead (child_at old counter) ≡ before_gap front old ++ stay
+    pub front_is : before_child now at ++ before_gap front_rest (child_at old counter) ≡ before_gap front old ++ stay
     pub done : List (Node K V Z)
     pub children : children_of now ≡ (take first (children_of old) ++ done) ++ drop counter (children_of old)
     pub place : length (take first (children_of old) ++ done) ≡ at
@@ -157,8 +101,8 @@ module _ {S K V Z : Type 0} (R : S → K × V → S → V → Bool → Type 0) w
     pub few : at ≤ counter
     pub inside : counter ≤ length (own_pairs old)
     pub inner : IsInner old
-    pub levels : (h : ℕ) → IsLevelled (suc h) old → AllByRecursion (IsThin h) done
-    pub onward : (ahead ≡ []) ⊎ ((counter ≡ first) × (ahead ≡ drop 1 front))
+    pub levels : (h : ℕ) → IsLevelled (suc h) old → AllByRecursion (IsUnderfull h) done
+    pub onward : (front_rest ≡ []) ⊎ ((counter ≡ first) × (front_rest ≡ drop 1 front))
 
   pub stretching_start : (s : S) (front : List ℕ) (old : Node K V Z) (first : ℕ) → IsInner old → first ≤ length (own_pairs old) → first ≡ get_or front 0 0
       → IsStretching s s front old old (drop 1 front) first first first
@@ -192,8 +136,8 @@ module _ {S K V Z : Type 0} (R : S → K × V → S → V → Bool → Type 0) w
         onward = inr (refl, refl);
       }
 
-  module _ (s t : S) (front : List ℕ) (old now : Node K V Z) (ahead : List ℕ) (first counter at : ℕ)
-      (x : IsStretching s t front old now ahead first counter at) where
+  module _ (s t : S) (front : List ℕ) (old now : Node K V Z) (front_rest : List ℕ) (first counter at : ℕ)
+      (x : IsStretching s t front old now front_rest first counter at) where
     abbrev A : List (Node K V Z)
     A = take first (children_of old) ++ x.done
 
@@ -231,27 +175,27 @@ module _ {S K V Z : Type 0} (R : S → K × V → S → V → Bool → Type 0) w
         }
 
     -- what is below the child goes on from there
-    stretching_end_below : (h m : ℕ) → IsEnd (suc h) front old → first ≡ get_or front 0 m → IsEnd h ahead c
+    stretching_end_below : (h m : ℕ) → IsEnd (suc h) front old → first ≡ get_or front 0 m → IsEnd h front_rest c
     stretching_end_below h m e f = go x.onward
       where
-        go : (ahead ≡ []) ⊎ ((counter ≡ first) × (ahead ≡ drop 1 front)) → IsEnd h ahead c
-        go (inl n) = subst (λ p. IsEnd h p c) (sym n) tt
+        go : (front_rest ≡ []) ⊎ ((counter ≡ first) × (front_rest ≡ drop 1 front)) → IsEnd h front_rest c
+        go (inl n) = subst (λ p. IsEnd h p c) (sym n) (tt, λ q. absurd (omega arith))
         go (inr (q, n)) = subst (λ p. IsEnd h p c) (sym n) (subst (λ i. IsEnd h (drop 1 front) (child_at old i)) (sym (q ∙ f)) (end_below h front old m e))
 
     pub stretching_order : (back : List ℕ) (m : ℕ) → AreInOrder front back → first ≡ get_or front 0 0 → counter ≡ get_or back 0 m
-        → AreInOrder ahead (drop 1 back)
+        → AreInOrder front_rest (drop 1 back)
     stretching_order back m o f g = go x.onward
       where
-        go : (ahead ≡ []) ⊎ ((counter ≡ first) × (ahead ≡ drop 1 front)) → AreInOrder ahead (drop 1 back)
+        go : (front_rest ≡ []) ⊎ ((counter ≡ first) × (front_rest ≡ drop 1 front)) → AreInOrder front_rest (drop 1 back)
         go (inl n) = subst (λ p. AreInOrder p (drop 1 back)) (sym n) tt
         go (inr (q, n)) = subst (λ p. AreInOrder p (drop 1 back)) (sym n) (order_onward front back m o (sym f ∙ sym q ∙ g))
 
     pub stretching_onward : (h : ℕ) (d : Node K V Z) → IsLevelled (suc h) old → IsEnd (suc h) front old → first ≡ get_or front 0 0 → d ≡ child_at now at
-        → IsLevelled h d × IsEnd h ahead d
+        → IsLevelled h d × IsEnd h front_rest d
     stretching_onward h d l e f q =
         let is : d ≡ c = q ∙ stretching_lent.is in (
           subst (IsLevelled h) (sym is) (child_below h old counter l x.inside).1,
-          subst (IsEnd h ahead) (sym is) (stretching_end_below h 0 e f),
+          subst (IsEnd h front_rest) (sym is) (stretching_end_below h 0 e f),
         )
 
     pub stretching_back : (h m : ℕ) (d : Node K V Z) (back : List ℕ) → IsEnd (suc h) back old → counter ≡ get_or back 0 m → d ≡ child_at now at
@@ -261,15 +205,15 @@ module _ {S K V Z : Type 0} (R : S → K × V → S → V → Bool → Type 0) w
 
     -- the child came back
     module _ (mid dold dnew : Node K V Z) (is : dold ≡ child_at now at) (m : IsReplaced now mid at dnew)
-        (thin : (h : ℕ) → IsLevelled h dold → IsThin h dnew) where
+        (underfull : (h : ℕ) → IsLevelled h dold → IsUnderfull h dnew) where
       here : dold ≡ c
       here = is ∙ stretching_lent.is
 
       left : IsChildLeft now mid dnew at
       left = child_left now mid dnew at stretching_lent.inner stretching_lent.bounds m
 
-      thin_here : (h : ℕ) → IsLevelled (suc h) old → IsThin h dnew
-      thin_here h l = thin h (subst (IsLevelled h) (sym here) (child_below h old counter l x.inside).1)
+      underfull_here : (h : ℕ) → IsLevelled (suc h) old → IsUnderfull h dnew
+      underfull_here h l = underfull h (subst (IsLevelled h) (sym here) (child_below h old counter l x.inside).1)
 
       taken : take at (children_of mid) ≡ A
       taken = m.lead ∙ ap (take at) x.children ∙ take_place A (drop counter (children_of old)) at x.place
@@ -278,17 +222,17 @@ module _ {S K V Z : Type 0} (R : S → K × V → S → V → Bool → Type 0) w
       dropped = m.rest ∙ ap (drop (suc at)) (stretching_open.children ∙ sym (append_assoc A (c ∷ []) D))
           ∙ drop_place (A ++ c ∷ []) D (suc at) (length-append A (c ∷ []) ∙ (omega arith))
 
-      pub back_thin : (h : ℕ) → IsLevelled (suc h) old → IsThin h (child_at mid at)
-      back_thin h l = subst (IsThin h) (sym left.child) (thin_here h l)
+      pub back_underfull : (h : ℕ) → IsLevelled (suc h) old → IsUnderfull h (child_at mid at)
+      back_underfull h l = subst (IsUnderfull h) (sym left.child) (underfull_here h l)
 
       pub back_sizes : IsInner mid × (at ≤ length (own_pairs mid)) × (length (own_pairs mid) + counter ≡ length (own_pairs old) + at)
       back_sizes =
           let o : length (own_pairs mid) ≡ length (own_pairs now) = ap length m.same in
           (left.inner, omega (arith, stretching_lent.bounds), omega (arith, stretching_lent.size))
 
-      -- and the pair behind it was asked
-      pub stretching_more : (u v : S) (new : Node K V Z) (j : ℕ) → counter < length (own_pairs old) → IsStretchFiltered R t u ahead [] dold dnew
-          → IsPassed IsThin R u v at j mid new → IsStretching s v front old new [] first (counter + 1) j
+      -- and the pair after it was asked
+      pub stretching_more : (u v : S) (new : Node K V Z) (j : ℕ) → counter < length (own_pairs old) → IsRangeFiltered R t u front_rest [] dold dnew
+          → IsPassed IsUnderfull R u v at j mid new → IsStretching s v front old new [] first (counter + 1) j
       stretching_more u v new j lt e p =
           let one : counter + 1 ≡ suc counter = omega arith in
           let next : at + 1 ≡ suc at = omega arith in
@@ -320,10 +264,10 @@ module _ {S K V Z : Type 0} (R : S → K × V → S → V → Bool → Type 0) w
           sym (open_after now at _ _ _ _ _ stretching_open) ∙ sym left.after ∙ p.here
           ∙ ap (λ n. p.asked ∷ (pairs_of n ++ after_child mid (at + 1))) (sym p.child ∙ child)
           ∙ ap (λ zs. p.asked ∷ (pairs_of (child_at old (counter + 1)) ++ zs)) (sym p.after ∙ after) in
-          let asked : pairs_of c ≡ before_gap ahead c ++ e.asked = ap pairs_of (sym here) ∙ e.before
-          ∙ ap (λ zs. before_gap ahead dold ++ zs) (append-nil e.asked) ∙ ap (λ n. before_gap ahead n ++ e.asked) here in
-          let stays : pairs_of dnew ≡ before_gap ahead c ++ e.stay = e.after
-          ∙ ap (λ zs. before_gap ahead dold ++ zs) (append-nil e.stay) ∙ ap (λ n. before_gap ahead n ++ e.stay) here in
+          let asked : pairs_of c ≡ before_gap front_rest c ++ e.asked = ap pairs_of (sym here) ∙ e.before
+          ∙ ap (λ zs. before_gap front_rest dold ++ zs) (append-nil e.asked) ∙ ap (λ n. before_gap front_rest n ++ e.asked) here in
+          let stays : pairs_of dnew ≡ before_gap front_rest c ++ e.stay = e.after
+          ∙ ap (λ zs. before_gap front_rest dold ++ zs) (append-nil e.stay) ∙ ap (λ n. before_gap front_rest n ++ e.stay) here in
           record {
             seen = x.seen ++ (e.asked ++ p.asked ∷ []);
             stay = x.stay ++ (e.stay ++ p.stay);
@@ -334,7 +278,7 @@ module _ {S K V Z : Type 0} (R : S → K × V → S → V → Bool → Type 0) w
                 ∙ regroup (before_gap front old) x.seen e.asked p.asked (ys ++ after_child old (counter + 1));
             front_is = append-nil (before_child new j) ∙ p.before ∙ ap (λ zs. zs ++ (pairs_of (child_at mid at) ++ p.stay)) left.before
                 ∙ ap (λ n. before_child now at ++ (pairs_of n ++ p.stay)) left.child ∙ ap (λ zs. before_child now at ++ (zs ++ p.stay)) stays
-                ∙ regroup_front (before_child now at) (before_gap ahead c) e.stay p.stay ∙ ap (λ zs. zs ++ (e.stay ++ p.stay)) x.front_is
+                ∙ regroup_front (before_child now at) (before_gap front_rest c) e.stay p.stay ∙ ap (λ zs. zs ++ (e.stay ++ p.stay)) x.front_is
                 ∙ append_assoc (before_gap front old) x.stay (e.stay ++ p.stay);
             done = x.done ++ p.kept;
             children = cs ∙ ap (λ i. (take first (children_of old) ++ (x.done ++ p.kept)) ++ drop i (children_of old)) (sym one);
@@ -346,7 +290,7 @@ module _ {S K V Z : Type 0} (R : S → K × V → S → V → Bool → Type 0) w
             few = omega arith;
             inside = omega arith;
             inner = x.inner;
-            levels = λ h l. all_both (IsThin h) x.done p.kept (x.levels h l) (p.levels h (back_thin h l));
+            levels = λ h l. all_both (IsUnderfull h) x.done p.kept (x.levels h l) (p.levels h (back_underfull h l));
             onward = inl refl;
           }
         where
@@ -357,16 +301,16 @@ module _ {S K V Z : Type 0} (R : S → K × V → S → V → Bool → Type 0) w
           regroup_front b g a z = simp append_assoc
 
       -- the last child
-      pub stretching_filtered : (u : S) (back : List ℕ) → counter ≡ get_or back 0 (length (own_pairs old)) → IsStretchFiltered R t u ahead (drop 1 back) dold
+      pub stretching_filtered : (u : S) (back : List ℕ) → counter ≡ get_or back 0 (length (own_pairs old)) → IsRangeFiltered R t u front_rest (drop 1 back) dold
           dnew
-          → IsStretchFiltered R s u front back old mid
+          → IsRangeFiltered R s u front back old mid
       stretching_filtered u back g e =
           let b = back_parts back old counter g in
           let rest = after_gap (drop 1 back) c in
-          let asked : pairs_of c ≡ before_gap ahead c ++ (e.asked ++ rest) = ap pairs_of (sym here) ∙ e.before
-          ∙ ap (λ n. before_gap ahead n ++ (e.asked ++ after_gap (drop 1 back) n)) here in
-          let stays : pairs_of dnew ≡ before_gap ahead c ++ (e.stay ++ rest) = e.after
-          ∙ ap (λ n. before_gap ahead n ++ (e.stay ++ after_gap (drop 1 back) n)) here in
+          let asked : pairs_of c ≡ before_gap front_rest c ++ (e.asked ++ rest) = ap pairs_of (sym here) ∙ e.before
+          ∙ ap (λ n. before_gap front_rest n ++ (e.asked ++ after_gap (drop 1 back) n)) here in
+          let stays : pairs_of dnew ≡ before_gap front_rest c ++ (e.stay ++ rest) = e.after
+          ∙ ap (λ n. before_gap front_rest n ++ (e.stay ++ after_gap (drop 1 back) n)) here in
           let after : after_child mid at ≡ after_child old counter = left.after ∙ open_after now at _ _ _ _ _ stretching_open in
           record {
             asked = x.seen ++ e.asked;
@@ -377,8 +321,8 @@ module _ {S K V Z : Type 0} (R : S → K × V → S → V → Bool → Type 0) w
             after = inner_gap mid at left.inner back_sizes.1 ∙ ap (λ zs. zs ++ (pairs_of (child_at mid at) ++ after_child mid at)) left.before
                 ∙ ap (λ n. before_child now at ++ (pairs_of n ++ after_child mid at)) left.child
                 ∙ ap (λ zs. before_child now at ++ (zs ++ after_child mid at)) stays
-                ∙ ap (λ zs. before_child now at ++ ((before_gap ahead c ++ (e.stay ++ rest)) ++ zs)) after
-                ∙ regroup_front (before_child now at) (before_gap ahead c) e.stay rest (after_child old counter)
+                ∙ ap (λ zs. before_child now at ++ ((before_gap front_rest c ++ (e.stay ++ rest)) ++ zs)) after
+                ∙ regroup_front (before_child now at) (before_gap front_rest c) e.stay rest (after_child old counter)
                 ∙ ap (λ zs. zs ++ (e.stay ++ (rest ++ after_child old counter))) x.front_is
                 ∙ ap (λ zs. (before_gap front old ++ x.stay) ++ (e.stay ++ zs)) b
                 ∙ regroup_last (before_gap front old) x.stay e.stay (after_gap back old);
@@ -393,8 +337,8 @@ module _ {S K V Z : Type 0} (R : S → K × V → S → V → Bool → Type 0) w
           regroup_last : (f a b z : List (K × V)) → (f ++ a) ++ (b ++ z) ≡ f ++ ((a ++ b) ++ z)
           regroup_last f a b z = simp append_assoc
 
-      pub stretching_thin : (h : ℕ) → IsLevelled (suc h) old → IsThinWithin h mid first at
-      stretching_thin h l =
+      pub stretching_underfull : (h : ℕ) → IsLevelled (suc h) old → IsUnderfullWithin h mid first at
+      stretching_underfull h l =
           let cs = children_of old in
           let k : length cs ≡ length (own_pairs old) + 1 = x.inner in
           let order = x.later in
@@ -408,7 +352,7 @@ module _ {S K V Z : Type 0} (R : S → K × V → S → V → Bool → Type 0) w
           ∙ ap (λ zs. zs ++ child_at mid at ∷ drop (suc at) (children_of mid)) taken ∙ ap (λ ds. A ++ child_at mid at ∷ ds) dropped
           ∙ append_assoc (take first cs) x.done (child_at mid at ∷ D) in
           let one : at + 1 ≡ suc at = omega arith in
-          let of_sound = λ (n : Node K V Z) (y : IsSound h n). levelled_thin h n y.1 in
+          let of_sound = λ (n : Node K V Z) (y : IsSound h n). levelled_underfull h n y.1 in
           record {
             fits = omega (arith, back_sizes.2);
             inner = left.inner;
@@ -416,7 +360,8 @@ module _ {S K V Z : Type 0} (R : S → K × V → S → V → Bool → Type 0) w
             last = last;
             before = subst (AllByRecursion (IsSound h)) (sym (ap (take first) whole
                 ∙ take_place (take first cs) (x.done ++ child_at mid at ∷ D) first (length_take first cs (omega arith)))) front_sound;
-            thin = subst (AllByRecursion (IsThin h)) (sym whole) (all_both (IsThin h) (take first cs) _ (all_each (IsSound h) (IsThin h) of_sound _ front_sound)
-                (all_both (IsThin h) x.done _ (x.levels h l) (back_thin h l, all_each (IsSound h) (IsThin h) of_sound _ back_sound)));
+            underfull = subst (AllByRecursion (IsUnderfull h)) (sym whole)
+                (all_both (IsUnderfull h) (take first cs) _ (all_each (IsSound h) (IsUnderfull h) of_sound _ front_sound)
+                (all_both (IsUnderfull h) x.done _ (x.levels h l) (back_underfull h l, all_each (IsSound h) (IsUnderfull h) of_sound _ back_sound)));
             after = subst (AllByRecursion (IsSound h)) (sym (ap (λ i. drop i (children_of mid)) one ∙ dropped)) back_sound;
           }

@@ -23,7 +23,7 @@ module _ {S K V : Type 0} where
   IsOwnPassed R s t i j old new = (e : K × V) × (w : V) × (b : Bool) × R s e t w b × (e ≡ slice_index_or old i e) × MatchBool b ((j ≡ i + 1) × (new ≡ set_value old i w)) ((j ≡ i) × (new ≡ remove (set_value old i w) i))
 
 module _ {S K V Z : Type 0} where
-  -- The pair behind the child at i was filtered: what is left of the child and of the pair is before the child at j, which was the next one.
+  -- The pair after the child at i was filtered: what is left of the child and of the pair is before the child at j, which was the next one.
   -- What holds of the child holds of what is left of it.
   pub record IsPassed (L : ℕ → Node K V Z → Type 0) (R : S → K × V → S → V → Bool → Type 0) (s t : S) (i j : ℕ) (old new : Node K V Z) : Type 0 where
     pub asked : K × V

@@ -1,5 +1,5 @@
 pub mod Retained
-pub mod Loose
+pub mod Unbalanced
 pub mod Filtered
 pub mod Rebalancing
 pub mod Stretch

@@ -4,18 +4,18 @@ use Rattle.std.specs.List.{AllByRecursion}
 use Rattle.fc_base.specs.Sizes.{capacity, min_len}
 use Rattle.fc_tree_node.specs.declared.node.Node.{Node}
 use Rattle.fc_tree_node.specs.Node.{own_pairs, children_of, child_at, IsLeaf, IsInner, IsSound}
-use Rattle.fc_tree_retain.specs.Loose.{IsLoose}
+use Rattle.fc_tree_retain.specs.Unbalanced.{IsUnbalanced}
 
 module _ {K V Z : Type 0} where
   -- The node may hold few pairs, none too. Its children are sound; where it holds none, its only child may again be such a node.
-  abbrev pub IsThin : ℕ → Node K V Z → Type 0
-  IsThin zero n = (length (own_pairs n) ≤ capacity) × IsLeaf n
-  IsThin (suc h) n = (length (own_pairs n) ≤ capacity) × IsInner n × (AllByRecursion (IsSound h) (children_of n) ⊎ ((length (own_pairs n) ≡ 0) × IsThin h (child_at n 0)))
+  abbrev pub IsUnderfull : ℕ → Node K V Z → Type 0
+  IsUnderfull zero n = (length (own_pairs n) ≤ capacity) × IsLeaf n
+  IsUnderfull (suc h) n = (length (own_pairs n) ≤ capacity) × IsInner n × (AllByRecursion (IsSound h) (children_of n) ⊎ ((length (own_pairs n) ≡ 0) × IsUnderfull h (child_at n 0)))
 
   -- Such a node, or where the flag is not set one of which each node may hold few pairs.
-  abbrev pub IsThinOrLoose : Bool → ℕ → Node K V Z → Type 0
-  IsThinOrLoose true = IsThin
-  IsThinOrLoose false = IsLoose
+  abbrev pub IsUnderfullOrUnbalanced : Bool → ℕ → Node K V Z → Type 0
+  IsUnderfullOrUnbalanced true = IsUnderfull
+  IsUnderfullOrUnbalanced false = IsUnbalanced
 
   -- The two children beside the pair at the place may hold too few pairs, and those before them are sound.
   pub record IsSeam (h : ℕ) (n : Node K V Z) (i : ℕ) : Type 0 where
@@ -23,15 +23,15 @@ module _ {K V Z : Type 0} where
     pub fits : length (own_pairs n) ≤ capacity
     pub inner : IsInner n
     pub before : AllByRecursion (IsSound h) (take i (children_of n))
-    pub left : IsThin h (child_at n i)
-    pub right : IsThin h (child_at n (i + 1))
+    pub left : IsUnderfull h (child_at n i)
+    pub right : IsUnderfull h (child_at n (i + 1))
 
   -- Both became one node, which is sound where one of them was.
   pub record IsOne (h i : ℕ) (old new : Node K V Z) : Type 0 where
     pub whole : Node K V Z
     pub children : children_of new ≡ take i (children_of old) ++ whole ∷ drop (suc (suc i)) (children_of old)
     pub own : length (own_pairs new) + 1 ≡ length (own_pairs old)
-    pub thin : IsThin h whole
+    pub underfull : IsUnderfull h whole
     pub sound : IsSound h (child_at old i) ⊎ IsSound h (child_at old (i + 1)) → IsSound h whole
 
   -- Both are sound.

@@ -1,22 +1,16 @@
 -- The pairs of a tree between two gaps, asked in turn.
-use Rattle.std.specs.Prelude.{◌≡◌, ℕ, ◌+◌, ◌<◌, ◌≤◌, ◌⊎◌, Bool, List, [], ◌∷◌, ◌++◌, length, take, drop}
+use Rattle.std.specs.Prelude.{◌≡◌, ℕ, ◌+◌, ◌≤◌, Bool, List, ◌++◌, length, take, drop}
 use Rattle.std.specs.List.{AllByRecursion}
 use Rattle.fc_base.specs.Sizes.{capacity}
 use Rattle.fc_tree_node.specs.declared.node.Node.{Node}
 use Rattle.fc_tree_node.specs.Node.{own_pairs, children_of, pairs_of, IsInner, IsSound}
-use Rattle.fc_tree_node.specs.Path.{IsPath, before_gap, after_gap}
-use Rattle.fc_tree_retain.specs.Rebalancing.{IsThin}
+use Rattle.fc_tree_node.specs.Path.{before_gap, after_gap}
+use Rattle.fc_tree_retain.specs.Rebalancing.{IsUnderfull}
 use Rattle.fc_tree_retain.specs.Retained.{RetainsInTurn}
-
--- The first path leads to no later gap than the second; one without steps stands for the end on its side.
-abbrev pub AreInOrder : List ℕ → List ℕ → Type 0
-AreInOrder [] back = Unit {0}
-AreInOrder (i ∷ front) [] = Unit {0}
-AreInOrder (i ∷ front) (j ∷ back) = (i < j) ⊎ ((i ≡ j) × AreInOrder front back)
 
 module _ {S K V : Type 0} where
   -- The items from i up to j were asked, and those stay at which R said true.
-  pub record IsPartFiltered (R : S → K × V → S → V → Bool → Type 0) (s t : S) (i j : ℕ) (old new : List (K × V)) : Type 0 where
+  pub record IsLeafRangeFiltered (R : S → K × V → S → V → Bool → Type 0) (s t : S) (i j : ℕ) (old new : List (K × V)) : Type 0 where
     pub asked : List (K × V)
     pub stay : List (K × V)
     pub filtered : RetainsInTurn R s asked t stay
@@ -24,13 +18,8 @@ module _ {S K V : Type 0} where
     pub after : new ≡ take i old ++ (stay ++ drop j old)
 
 module _ {K V Z : Type 0} where
-  -- The path leads to a gap of a leaf so many levels down, or has no step.
-  abbrev pub IsEnd : ℕ → List ℕ → Node K V Z → Type 0
-  IsEnd h [] n = Unit {0}
-  IsEnd h (i ∷ path) n = IsPath (i ∷ path) n × (length path ≡ h)
-
   -- The pairs between two gaps were asked, and those stay at which R said true.
-  pub record IsStretchFiltered {S : Type 0} (R : S → K × V → S → V → Bool → Type 0) (s t : S) (front back : List ℕ) (old new : Node K V Z) : Type 0 where
+  pub record IsRangeFiltered {S : Type 0} (R : S → K × V → S → V → Bool → Type 0) (s t : S) (front back : List ℕ) (old new : Node K V Z) : Type 0 where
     pub asked : List (K × V)
     pub stay : List (K × V)
     pub filtered : RetainsInTurn R s asked t stay
@@ -38,11 +27,11 @@ module _ {K V Z : Type 0} where
     pub after : pairs_of new ≡ before_gap front old ++ (stay ++ after_gap back old)
 
   -- The children from the first of these places to the second may hold few pairs, and all others are sound.
-  pub record IsThinWithin (h : ℕ) (n : Node K V Z) (i j : ℕ) : Type 0 where
+  pub record IsUnderfullWithin (h : ℕ) (n : Node K V Z) (i j : ℕ) : Type 0 where
     pub fits : length (own_pairs n) ≤ capacity
     pub inner : IsInner n
     pub order : i ≤ j
     pub last : j ≤ length (own_pairs n)
     pub before : AllByRecursion (IsSound h) (take i (children_of n))
-    pub thin : AllByRecursion (IsThin h) (children_of n)
+    pub underfull : AllByRecursion (IsUnderfull h) (children_of n)
     pub after : AllByRecursion (IsSound h) (drop (j + 1) (children_of n))

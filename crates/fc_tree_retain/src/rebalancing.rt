@@ -3,9 +3,9 @@ ghost use Rattle.std.specs.Prelude.{◌≡◌, ℕ, suc, ◌+◌, ◌<◌, lengt
 ghost use Rattle.fc_base.specs.Sizes.{min_len};
 ghost use Rattle.fc_tree_node.specs.Node.{own_pairs, child_at, pairs_of};
 ghost use Rattle.fc_tree_node.specs.Tree.{entries, IsSoundWithin};
-ghost use Rattle.fc_tree_retain.specs.Loose.{IsLoose};
-ghost use Rattle.fc_tree_retain.specs.Rebalancing.{IsThin, IsSeam, IsSeamRebalanced, IsJoined};
-ghost use Rattle.fc_tree_retain.specs.Stretch.{IsThinWithin};
+ghost use Rattle.fc_tree_retain.specs.Unbalanced.{IsUnbalanced};
+ghost use Rattle.fc_tree_retain.specs.Rebalancing.{IsUnderfull, IsSeam, IsSeamRebalanced, IsJoined};
+ghost use Rattle.fc_tree_retain.specs.Stretch.{IsUnderfullWithin};
 
 use fc_base::{Count, Handle};
 use fc_tree_node::lend::child_in;
@@ -13,9 +13,9 @@ use fc_tree_node::node::{CAPACITY, MIN_LEN, Node, into_only_child};
 
 // Rebalances all below the node from the leaves up. The node itself may hold few pairs, none too.
 pub(crate) fn rebalance<K: Drop, V: Drop, A: Handle>(node: &mut Node<K, V, A>)
-    requires loose { (h : ℕ) × IsLoose h node.old }
+    requires unbalanced { (h : ℕ) × IsUnbalanced h node.old }
     ensures pairs { pairs_of node.new ≡ pairs_of node.old }
-    ensures levels { (h : ℕ) → IsLoose h node.old → IsThin h node.new }
+    ensures levels { (h : ℕ) → IsUnbalanced h node.old → IsUnderfull h node.new }
 {
     if node.is_leaf() {
         return;
@@ -54,9 +54,9 @@ pub(crate) fn rebalance_between<K: Drop, V: Drop, A: Handle>(
     first: usize,
     last: usize,
 )
-    requires { (h : ℕ) × IsThinWithin h node.old first last }
+    requires { (h : ℕ) × IsUnderfullWithin h node.old first last }
     ensures pairs { pairs_of node.new ≡ pairs_of node.old }
-    ensures thin { (h : ℕ) → IsThinWithin h node.old first last → IsThin (suc h) node.new }
+    ensures underfull { (h : ℕ) → IsUnderfullWithin h node.old first last → IsUnderfull (suc h) node.new }
 {
     let start = first.saturating_sub(1);
     let mut at = start;
@@ -98,18 +98,18 @@ fn join<K: Drop, V: Drop, A: Handle>(
 }
 
 // A root without pairs gives way to its only child, and that too.
-pub(crate) fn without_thin_roots<K: Drop, V: Drop, A: Handle>(
+pub(crate) fn without_empty_roots<K: Drop, V: Drop, A: Handle>(
     root: Node<K, V, A>,
 ) -> Option<Node<K, V, A>>
-    requires { (h : ℕ) × IsThin h root }
+    requires { (h : ℕ) × IsUnderfull h root }
     ensures pairs { entries result ≡ pairs_of root }
-    ensures levels { (h : ℕ) → IsThin h root → IsSoundWithin h result }
+    ensures levels { (h : ℕ) → IsUnderfull h root → IsSoundWithin h result }
 {
     if root.len() > 0 {
         return Some(root);
     }
     match into_only_child(root) {
         None => None,
-        Some(child) => without_thin_roots(child),
+        Some(child) => without_empty_roots(child),
     }
 }

@@ -8,7 +8,7 @@ ghost use Rattle.fc_tree_retain.specs.Filtered.{FiltersPair};
 
 use crate::filter::{Extracting, ExtractingKeys, Filter, Retaining, RetainingKeys};
 use crate::filtering::filter_subtree;
-use crate::rebalancing::{rebalance, without_thin_roots};
+use crate::rebalancing::{rebalance, without_empty_roots};
 use fc_base::Handle;
 use fc_tree_node::node::Node;
 use fc_tree_split::counting::count_in;
@@ -112,6 +112,6 @@ fn filter_root<K: Drop, V: Drop, S: Filter<K, V>, A: Handle>(
         let node: &mut Node<K, V, A> = &mut root;
         filter_subtree(node, filter);
         rebalance(node);
-        *tree = without_thin_roots(root);
+        *tree = without_empty_roots(root);
     }
 }

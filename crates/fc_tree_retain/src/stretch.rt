@@ -13,13 +13,13 @@ ghost use Rattle.fc_tree_retain.specs.Filtered.{FiltersPair};
 use crate::filter::{
     Counted, Dropping, Extracting, ExtractingKeys, Filter, Retaining, RetainingKeys,
 };
-use crate::rebalancing::without_thin_roots;
-use crate::within::filter_within;
+use crate::rebalancing::without_empty_roots;
+use crate::within::filter_range;
 use fc_base::Handle;
 use fc_tree_node::node::Node;
 use fc_tree_node::path::Path;
 
-/// `retain` of the pairs between two gaps, of which the first is not behind the second: the closure is called at each of these, in order,
+/// `retain` of the pairs between two gaps, of which the first is not after the second: the closure is called at each of these, in order,
 /// with its value lent for writing, and those are dropped at which it answers false. It answers how many went. No memory is taken, and
 /// nothing is compared.
 pub fn retain_between<K: Drop, V: Drop, F: FnMut(&K, &mut V) -> bool, A: Handle>(
@@ -37,10 +37,10 @@ pub fn retain_between<K: Drop, V: Drop, F: FnMut(&K, &mut V) -> bool, A: Handle>
     ensures ascending { (cmp : K → K → Ordering) → IsAscending cmp (entries tree.old) → IsAscending cmp (entries tree.new) }
     ensures count { result + length (entries tree.new) ≡ length (entries tree.old) }
 {
-    filter_stretch(tree, front, back, Retaining { keep: f })
+    filter_tree_range(tree, front, back, Retaining { keep: f })
 }
 
-/// `extract_if` of the pairs between two gaps, of which the first is not behind the second: `pick` is called at each of these, in order,
+/// `extract_if` of the pairs between two gaps, of which the first is not after the second: `pick` is called at each of these, in order,
 /// with its value lent for writing, those are taken out at which it answers true, and `each` is called with each of them at once. It
 /// answers how many went. No memory is taken, and nothing is compared.
 pub fn extract_between<K: Drop, V: Drop, F: FnMut(&K, &mut V) -> bool, E: FnMut(K, V), A: Handle>(
@@ -59,10 +59,10 @@ pub fn extract_between<K: Drop, V: Drop, F: FnMut(&K, &mut V) -> bool, E: FnMut(
     ensures ascending { (cmp : K → K → Ordering) → IsAscending cmp (entries tree.old) → IsAscending cmp (entries tree.new) }
     ensures count { result + length (entries tree.new) ≡ length (entries tree.old) }
 {
-    filter_stretch(tree, front, back, Extracting { pick, each })
+    filter_tree_range(tree, front, back, Extracting { pick, each })
 }
 
-/// Drops all pairs between two gaps, of which the first is not behind the second, in order, and answers how many these were. No memory
+/// Drops all pairs between two gaps, of which the first is not after the second, in order, and answers how many these were. No memory
 /// is taken, and nothing is compared.
 pub fn remove_between<K: Drop, V: Drop, A: Handle>(
     tree: &mut Option<Node<K, V, A>>,
@@ -77,7 +77,7 @@ pub fn remove_between<K: Drop, V: Drop, A: Handle>(
     ensures ascending { (cmp : K → K → Ordering) → IsAscending cmp (entries tree.old) → IsAscending cmp (entries tree.new) }
     ensures count { result + length (entries tree.new) ≡ length (entries tree.old) }
 {
-    filter_stretch(tree, front, back, Dropping {})
+    filter_tree_range(tree, front, back, Dropping {})
 }
 
 /// `retain_between` by the key alone. The values stay as they are.
@@ -96,7 +96,7 @@ pub fn retain_keys_between<K: Drop, V: Drop, F: FnMut(&K) -> bool, A: Handle>(
     ensures ascending { (cmp : K → K → Ordering) → IsAscending cmp (entries tree.old) → IsAscending cmp (entries tree.new) }
     ensures count { result + length (entries tree.new) ≡ length (entries tree.old) }
 {
-    filter_stretch(tree, front, back, RetainingKeys { keep: f })
+    filter_tree_range(tree, front, back, RetainingKeys { keep: f })
 }
 
 /// `extract_between` by the key alone: `each` is called with the keys, and the values are dropped.
@@ -116,11 +116,11 @@ pub fn extract_keys_between<K: Drop, V: Drop, F: FnMut(&K) -> bool, E: FnMut(K),
     ensures ascending { (cmp : K → K → Ordering) → IsAscending cmp (entries tree.old) → IsAscending cmp (entries tree.new) }
     ensures count { result + length (entries tree.new) ≡ length (entries tree.old) }
 {
-    filter_stretch(tree, front, back, ExtractingKeys { pick, each })
+    filter_tree_range(tree, front, back, ExtractingKeys { pick, each })
 }
 
 // Asks of each pair between two gaps of the tree, which is rebalanced after, and answers how many went.
-fn filter_stretch<K: Drop, V: Drop, S: Filter<K, V> + Drop, A: Handle>(
+fn filter_tree_range<K: Drop, V: Drop, S: Filter<K, V> + Drop, A: Handle>(
     tree: &mut Option<Node<K, V, A>>,
     front: &Path,
     back: &Path,
@@ -136,12 +136,12 @@ fn filter_stretch<K: Drop, V: Drop, S: Filter<K, V> + Drop, A: Handle>(
     ensures count { result + length (entries tree.new) ≡ length (entries tree.old) }
 {
     let mut counted = Counted { filter, gone: 0 };
-    filter_between_gaps(tree, front, back, &mut counted);
+    filter_root_range(tree, front, back, &mut counted);
     counted.gone
 }
 
 // Asks of each pair between two gaps of the tree, which is rebalanced after.
-fn filter_between_gaps<K: Drop, V: Drop, S: Filter<K, V>, A: Handle>(
+fn filter_root_range<K: Drop, V: Drop, S: Filter<K, V>, A: Handle>(
     tree: &mut Option<Node<K, V, A>>,
     front: &Path,
     back: &Path,
@@ -155,7 +155,7 @@ fn filter_between_gaps<K: Drop, V: Drop, S: Filter<K, V>, A: Handle>(
 {
     if let Some(mut root) = tree.take() {
         let node: &mut Node<K, V, A> = &mut root;
-        filter_within(node, front.as_slice(), back.as_slice(), filter);
-        *tree = without_thin_roots(root);
+        filter_range(node, front.as_slice(), back.as_slice(), filter);
+        *tree = without_empty_roots(root);
     }
 }

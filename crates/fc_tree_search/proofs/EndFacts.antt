@@ -16,12 +16,12 @@ module _ {X : Type 0} where
   last_there : (lead xs : List X) (i : ℕ) (x : X) → i + 1 ≡ length xs → x ≡ get_or xs i x → slice_get (lead ++ xs) (length (lead ++ xs) - 1) ≡ Some x
   last_there lead xs i x end e =
       let t = item_there xs i (omega arith) in
-      past lead (length (lead ++ xs) - 1) (let l = length-append lead xs in omega arith) ∙ t.2 ∙ ap Some (sym (t.1 x) ∙ sym e)
+      after lead (length (lead ++ xs) - 1) (let l = length-append lead xs in omega arith) ∙ t.2 ∙ ap Some (sym (t.1 x) ∙ sym e)
     where
-      past : (lead : List X) (n : ℕ) → n ≡ length lead + i → slice_get (lead ++ xs) n ≡ slice_get xs i
-      past [] n f = ap (slice_get xs) (omega arith)
-      past (y ∷ lead) zero f = absurd (omega arith)
-      past (y ∷ lead) (suc n) f = past lead n (omega arith)
+      after : (lead : List X) (n : ℕ) → n ≡ length lead + i → slice_get (lead ++ xs) n ≡ slice_get xs i
+      after [] n f = ap (slice_get xs) (omega arith)
+      after (y ∷ lead) zero f = absurd (omega arith)
+      after (y ∷ lead) (suc n) f = after lead n (omega arith)
 
 module _ {K V Z : Type 0} where
   -- a way down has come to the node, with all its pairs before others

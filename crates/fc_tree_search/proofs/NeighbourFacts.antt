@@ -20,15 +20,15 @@ use Rattle.fc_tree_search.specs.Neighbours.{first_item, last_item, not_above}
 use Rattle.fc_tree_search.proofs.SearchFacts.{IsOnWay, IsSearch, way_gap, way_found, found_at, gap_at}
 
 module _ {X : Type 0} where
-  last_past : (xs : List X) (x : X) → slice_get (xs ++ x ∷ []) (length xs) ≡ Some x
-  last_past [] x = refl
-  last_past (y ∷ xs) x = last_past xs x
+  last_after : (xs : List X) (x : X) → slice_get (xs ++ x ∷ []) (length xs) ≡ Some x
+  last_after [] x = refl
+  last_after (y ∷ xs) x = last_after xs x
 
   -- the last of a list that ends with an item
   pub last_is : (xs : List X) (x : X) → last_item (xs ++ x ∷ []) ≡ Some x
   last_is xs x =
       let n : length (xs ++ x ∷ []) - 1 ≡ length xs = let l = length-append xs (x ∷ []) in omega arith in
-      ap (slice_get (xs ++ x ∷ [])) n ∙ last_past xs x
+      ap (slice_get (xs ++ x ∷ [])) n ∙ last_after xs x
 
   -- the last of a list is that of the whole, and the first alike
   pub first_kept : (xs rest : List X) (x : X) → first_item xs ≡ Some x → first_item (xs ++ rest) ≡ Some x
@@ -225,11 +225,11 @@ module _ {K Q V Z : Type 0} {own : K → K → Ordering} {cmp : K → Q → Orde
     pub found_first : (b : Bool) (found next : Option (K × V)) → (b ≡ true → found ≡ slice_get (own_pairs node) i)
         → (b ≡ false → (rest : List (K × V)) → next ≡ first_item rest → found ≡ first_item (after_own node i ++ rest)) → next ≡ first_item (after_gap path root)
         → found ≡ first_item (if b then not_below cmp (pairs_of root) k else above cmp (pairs_of root) k)
-    found_first true found next equal past e = let x = item_there (own_pairs node) i f.0 in equal refl ∙ x.2 ∙ found_from x.0 (sym (x.1 x.0))
-    found_first false found next equal past e = past refl (after_gap path root) e ∙ ap first_item found_after
+    found_first true found next equal beside e = let x = item_there (own_pairs node) i f.0 in equal refl ∙ x.2 ∙ found_from x.0 (sym (x.1 x.0))
+    found_first false found next equal beside e = beside refl (after_gap path root) e ∙ ap first_item found_after
 
     pub found_last : (b : Bool) (found last : Option (K × V)) → (b ≡ true → found ≡ slice_get (own_pairs node) i)
         → (b ≡ false → (lead : List (K × V)) → last ≡ last_item lead → found ≡ last_item (lead ++ before_own node i)) → last ≡ last_item (before_gap path root)
         → found ≡ last_item (if b then not_above cmp (pairs_of root) k else below cmp (pairs_of root) k)
-    found_last true found last equal past e = let x = item_there (own_pairs node) i f.0 in equal refl ∙ x.2 ∙ found_to x.0 (sym (x.1 x.0))
-    found_last false found last equal past e = past refl (before_gap path root) e ∙ ap last_item found_before
+    found_last true found last equal beside e = let x = item_there (own_pairs node) i f.0 in equal refl ∙ x.2 ∙ found_to x.0 (sym (x.1 x.0))
+    found_last false found last equal beside e = beside refl (before_gap path root) e ∙ ap last_item found_before

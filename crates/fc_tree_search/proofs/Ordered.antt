@@ -9,7 +9,7 @@ use Rattle.std.proofs.lemmas.List.Elements.{filter-append}
 use Rattle.fc_base.specs.Ascending.{IsAscending}
 use Rattle.fc_base.specs.Parts.{below, above, at}
 use Rattle.fc_base.specs.Query.{IsQueryOrder}
-use Rattle.fc_base.proofs.Laws.{ascending_front, ascending_back, smaller_ahead}
+use Rattle.fc_base.proofs.Laws.{ascending_front, ascending_back, smaller_before}
 use Rattle.fc_tree_search.specs.Found.{AllBelow, AllAbove}
 use Rattle.fc_tree_node.proofs.Lists.{all_both}
 
@@ -43,10 +43,10 @@ module _ {K Q V : Type 0} (cmp : K → Q → Ordering) (k : Q) where
   around_above [] a = record { lower = refl; upper = refl; here = refl }
   around_above (e ∷ s) a = let i = around_above s a.1 in record { lower = rw a.0 i.lower; upper = rw a.0 (ap (λ zs. e ∷ zs) i.upper); here = rw a.0 i.here }
 
-  -- the look-up goes past smaller keys
-  pub at_past : (L s : List (K × V)) → AllBelow cmp k L → at cmp (L ++ s) k ≡ at cmp s k
-  at_past [] s a = refl
-  at_past (e ∷ L) s a = rw a.0 (at_past L s a.1)
+  -- the look-up goes over smaller keys
+  pub at_after : (L s : List (K × V)) → AllBelow cmp k L → at cmp (L ++ s) k ≡ at cmp s k
+  at_after [] s a = refl
+  at_after (e ∷ L) s a = rw a.0 (at_after L s a.1)
 
   -- a list of smaller keys, then one of greater keys
   pub around_gap : (L R : List (K × V)) → AllBelow cmp k L → AllAbove cmp k R → IsAround (L ++ R) L R None
@@ -55,7 +55,7 @@ module _ {K Q V : Type 0} (cmp : K → Q → Ordering) (k : Q) where
       record {
         lower = filter-append (λ e. is_lt (cmp e.0 k)) L R ∙ ap (λ zs. zs ++ below cmp R k) l.lower ∙ ap (λ zs. L ++ zs) r.lower ∙ append-nil L;
         upper = filter-append (λ e. is_gt (cmp e.0 k)) L R ∙ ap (λ zs. zs ++ above cmp R k) l.upper ∙ r.upper;
-        here = at_past L R a ∙ r.here;
+        here = at_after L R a ∙ r.here;
       }
 
   around_equal : (p : K × V) (R : List (K × V)) → cmp p.0 k ≡ Equal → AllAbove cmp k R → IsAround (p ∷ R) [] R (Some p)
@@ -68,7 +68,7 @@ module _ {K Q V : Type 0} (cmp : K → Q → Ordering) (k : Q) where
       record {
         lower = filter-append (λ e. is_lt (cmp e.0 k)) L (p ∷ R) ∙ ap (λ zs. zs ++ below cmp (p ∷ R) k) l.lower ∙ ap (λ zs. L ++ zs) r.lower ∙ append-nil L;
         upper = filter-append (λ e. is_gt (cmp e.0 k)) L (p ∷ R) ∙ ap (λ zs. zs ++ above cmp (p ∷ R) k) l.upper ∙ r.upper;
-        here = at_past L (p ∷ R) a ∙ r.here;
+        here = at_after L (p ∷ R) a ∙ r.here;
       }
 
 module _ {K Q V : Type 0} {own : K → K → Ordering} {cmp : K → Q → Ordering} (o : IsQueryOrder own cmp) (k : Q) where
@@ -83,7 +83,7 @@ module _ {K Q V : Type 0} {own : K → K → Ordering} {cmp : K → Q → Orderi
 
   above_equal : (p : K × V) (xs : List (K × V)) → cmp p.0 k ≡ Equal → AllByRecursion (λ e. own p.0 e.0 ≡ Less) xs → AllAbove cmp k xs
   above_equal p [] h a = tt
-  above_equal p (x ∷ xs) h a = (o.past k p.0 x.0 a.0 h, above_equal p xs h a.1)
+  above_equal p (x ∷ xs) h a = (o.after k p.0 x.0 a.0 h, above_equal p xs h a.1)
 
   above_upper : (p : K × V) (xs : List (K × V)) → cmp p.0 k ≡ Greater → AllByRecursion (λ e. own p.0 e.0 ≡ Less) xs → AllAbove cmp k xs
   above_upper p [] h a = tt
@@ -91,11 +91,11 @@ module _ {K Q V : Type 0} {own : K → K → Ordering} {cmp : K → Q → Orderi
 
   -- in an ascending list, at a pair with an equal key
   pub sides_equal : (L R : List (K × V)) (p : K × V) → IsAscending own (L ++ p ∷ R) → cmp p.0 k ≡ Equal → AllBelow cmp k L × AllAbove cmp k R
-  sides_equal L R p a e = (below_equal p L e (smaller_ahead own L R p a), above_equal p R e (ascending_back own L (p ∷ R) a).0)
+  sides_equal L R p a e = (below_equal p L e (smaller_before own L R p a), above_equal p R e (ascending_back own L (p ∷ R) a).0)
 
   -- up to a pair with a smaller key
   pub side_lower : (L R : List (K × V)) (p : K × V) → IsAscending own (L ++ p ∷ R) → cmp p.0 k ≡ Less → AllBelow cmp k (L ++ p ∷ [])
-  side_lower L R p a e = all_both (λ x. cmp x.0 k ≡ Less) L (p ∷ []) (below_lower p L e (smaller_ahead own L R p a)) (e, tt)
+  side_lower L R p a e = all_both (λ x. cmp x.0 k ≡ Less) L (p ∷ []) (below_lower p L e (smaller_before own L R p a)) (e, tt)
 
   -- from a pair with a greater key on
   pub side_upper : (L R : List (K × V)) (p : K × V) → IsAscending own (L ++ p ∷ R) → cmp p.0 k ≡ Greater → AllAbove cmp k (p ∷ R)

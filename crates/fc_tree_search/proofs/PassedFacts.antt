@@ -38,17 +38,17 @@ module _ {K Q V : Type 0} (cmp : K → Q → Ordering) (k : Q) where
     passed_is n = fold_out-Node K V Z ℕ (passed_step cmp k) n ∙ folded (own_pairs n) (out-Node K V Z n).children
 
   -- keys below k are counted, and stop nothing
-  pub past_lower : (L s : List (K × V)) (ns : List ℕ) → AllBelow cmp k L → lower_count cmp k (L ++ s) ≡ length L + lower_count cmp k s
-  past_lower [] s ns a = omega arith
-  past_lower (e ∷ L) s ns a = rw a.0 (let i = past_lower L s ns a.1 in omega arith)
+  pub after_lower : (L s : List (K × V)) (ns : List ℕ) → AllBelow cmp k L → lower_count cmp k (L ++ s) ≡ length L + lower_count cmp k s
+  after_lower [] s ns a = omega arith
+  after_lower (e ∷ L) s ns a = rw a.0 (let i = after_lower L s ns a.1 in omega arith)
 
-  past_stop : (L s : List (K × V)) → AllBelow cmp k L → stop_count cmp k (L ++ s) ≡ stop_count cmp k s
-  past_stop [] s a = refl
-  past_stop (e ∷ L) s a = rw a.0 (past_stop L s a.1)
+  after_stop : (L s : List (K × V)) → AllBelow cmp k L → stop_count cmp k (L ++ s) ≡ stop_count cmp k s
+  after_stop [] s a = refl
+  after_stop (e ∷ L) s a = rw a.0 (after_stop L s a.1)
 
-  pub past_equal : (L s : List (K × V)) → AllBelow cmp k L → list_any (λ e. is_eq (cmp e.0 k)) (L ++ s) ≡ list_any (λ e. is_eq (cmp e.0 k)) s
-  past_equal [] s a = refl
-  past_equal (e ∷ L) s a = rw a.0 (past_equal L s a.1)
+  pub after_equal : (L s : List (K × V)) → AllBelow cmp k L → list_any (λ e. is_eq (cmp e.0 k)) (L ++ s) ≡ list_any (λ e. is_eq (cmp e.0 k)) s
+  after_equal [] s a = refl
+  after_equal (e ∷ L) s a = rw a.0 (after_equal L s a.1)
 
   -- keys above k are neither below it nor equal to it
   pub upper_none : (R : List (K × V)) → AllAbove cmp k R → (lower_count cmp k R ≡ 0)
@@ -62,9 +62,9 @@ module _ {K Q V : Type 0} (cmp : K → Q → Ordering) (k : Q) where
   passed_equal L R p ns a e b =
       let l : lower_count cmp k (p ∷ R) ≡ 0 = rw e (upper_none R b).0 in
       let s : stop_count cmp k (p ∷ R) ≡ 1 = rw e refl in
-      let d : down_count cmp k (L ++ p ∷ R) ns ≡ 0 = rw (past_equal L (p ∷ R) a) (rw e refl) in
-      let l₁ = past_lower L (p ∷ R) ns a in
-      let s₁ = past_stop L (p ∷ R) a in
+      let d : down_count cmp k (L ++ p ∷ R) ns ≡ 0 = rw (after_equal L (p ∷ R) a) (rw e refl) in
+      let l₁ = after_lower L (p ∷ R) ns a in
+      let s₁ = after_stop L (p ∷ R) a in
       omega arith
 
   -- at a gap, what is passed in the child there counts
@@ -72,9 +72,9 @@ module _ {K Q V : Type 0} (cmp : K → Q → Ordering) (k : Q) where
       → passed_in (L ++ R) ns ≡ length L + stop_count cmp k R + slice_index ns (length L)
   passed_between L R ns a b =
       let n = upper_none R b in
-      let l : lower_count cmp k (L ++ R) ≡ length L = let x = past_lower L R ns a in omega arith in
-      let s = past_stop L R a in
-      let d : down_count cmp k (L ++ R) ns ≡ slice_index ns (length L) = rw (past_equal L R a) (rw n.1 (ap (λ i. slice_index ns i) l)) in
+      let l : lower_count cmp k (L ++ R) ≡ length L = let x = after_lower L R ns a in omega arith in
+      let s = after_stop L R a in
+      let d : down_count cmp k (L ++ R) ns ≡ slice_index ns (length L) = rw (after_equal L R a) (rw n.1 (ap (λ i. slice_index ns i) l)) in
       omega arith
 
   -- some key is not below k

@@ -14,7 +14,7 @@ use Rattle.fc_tree_node.proofs.Lists.{length_take, take_drop}
 use Rattle.fc_tree_node.proofs.Pairs.{leaf_children}
 use Rattle.fc_tree_search.proofs.Ordered.{sides_equal}
 use Rattle.fc_tree_node.proofs.Gaps.{cut_item, item_there}
-use Rattle.fc_tree_search.proofs.PassedFacts.{past_lower, past_equal, upper_none, own_ascending, upper_rest}
+use Rattle.fc_tree_search.proofs.PassedFacts.{after_lower, after_equal, upper_none, own_ascending, upper_rest}
 use Rattle.fc_tree_search.proofs.SearchFacts.{IsSearch, way_ascending}
 
 module _ {K Q V : Type 0} (cmp : K → Q → Ordering) (k : Q) where
@@ -37,8 +37,8 @@ module _ {K Q V : Type 0} (cmp : K → Q → Ordering) (k : Q) where
       → way_in (L ++ p ∷ R) paths ≡ length L ∷ []
   way_equal L R p paths a e b =
       let l : lower_count cmp k (p ∷ R) ≡ 0 = rw e (upper_none cmp k R b).0 in
-      let i : lower_count cmp k (L ++ p ∷ R) ≡ length L = let x = past_lower cmp k L (p ∷ R) [] a in omega arith in
-      let d : onward cmp k (L ++ p ∷ R) paths ≡ [] = rw (past_equal cmp k L (p ∷ R) a) (rw e refl) in
+      let i : lower_count cmp k (L ++ p ∷ R) ≡ length L = let x = after_lower cmp k L (p ∷ R) [] a in omega arith in
+      let d : onward cmp k (L ++ p ∷ R) paths ≡ [] = rw (after_equal cmp k L (p ∷ R) a) (rw e refl) in
       ap (λ q. lower_count cmp k (L ++ p ∷ R) ∷ q) d ∙ ap (λ j. j ∷ []) i
 
   -- at a gap, the path in the child there goes on
@@ -46,8 +46,8 @@ module _ {K Q V : Type 0} (cmp : K → Q → Ordering) (k : Q) where
       → way_in (L ++ R) paths ≡ length L ∷ get_or paths (length L) []
   way_between L R paths a b =
       let n = upper_none cmp k R b in
-      let i : lower_count cmp k (L ++ R) ≡ length L = let x = past_lower cmp k L R [] a in omega arith in
-      let d : onward cmp k (L ++ R) paths ≡ get_or paths (length L) [] = rw (past_equal cmp k L R a) (rw n.1 (ap (λ j. get_or paths j []) i)) in
+      let i : lower_count cmp k (L ++ R) ≡ length L = let x = after_lower cmp k L R [] a in omega arith in
+      let d : onward cmp k (L ++ R) paths ≡ get_or paths (length L) [] = rw (after_equal cmp k L R a) (rw n.1 (ap (λ j. get_or paths j []) i)) in
       ap (λ q. lower_count cmp k (L ++ R) ∷ q) d ∙ ap (λ j. j ∷ get_or paths (length L) []) i
 
 module _ {K Q V Z : Type 0} {own : K → K → Ordering} {cmp : K → Q → Ordering} (o : IsQueryOrder own cmp) (k : Q) where

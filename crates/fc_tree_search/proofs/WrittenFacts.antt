@@ -49,7 +49,7 @@ module _ {K V : Type 0} where
     pub lent_there : (way : List ℕ) (p : ℕ) (n : Node K V Z) (ps : List (K × V)) → IsPlace (way ++ p ∷ []) n → ps ≡ own_pairs (node_at way n) → p < length ps
     lent_there way p n ps at is = let there = (place_way way p n at).1 in let same = ap length is in omega (arith, there, same)
 
-    -- one step ahead of others
+    -- one step before others
     step_written : (i : ℕ) (way : List ℕ) (p : ℕ) (n : Node K V Z) (w : V)
         → with_child n i (written (child_at n i) (way ++ p ∷ []) w) ≡ written n (i ∷ way ++ p ∷ []) w
     unfolding written

@@ -1,28 +1,22 @@
--- The tree in which a value is written at a place: its pairs, its levels, and what a search passes in it.
-use Rattle.std.proofs.Common.{◌≡◌, ℕ, zero, suc, ◌<◌, ◌≤◌, List, [], ◌∷◌, ◌++◌, length, map, take, drop, get_or, slice_get, slice_set, Some}
-use Rattle.std.proofs.Common.{refl, sym, ap, subst, ◌∙◌, arith, cond}
-use Rattle.std.specs.Prelude.{Bool, true, false, unwrap_or, not, ◌||◌, slice_index}
-use Rattle.std.specs.List.{AllByRecursion, list_any}
+-- The tree in which a value is written at a place: it stays but for its values, and its pairs.
+use Rattle.std.proofs.Common.{◌≡◌, ℕ, zero, suc, ◌<◌, List, [], ◌∷◌, ◌++◌, length, map, take, drop, get_or, slice_get, slice_set, Option, Some, None}
+use Rattle.std.proofs.Common.{refl, sym, ap, subst, ◌∙◌, arith}
+use Rattle.std.specs.Prelude.{unwrap_or}
 use Rattle.std.specs.Option.{option_map}
-use Rattle.std.specs.Ordering.{is_lt, is_eq}
 use Rattle.std.specs.declared.cmp.Ordering.{Ordering}
-use Rattle.std.specs.declared.cmp.Ordering.TheVariants.{Less}
-use Rattle.fc_base.specs.Ascending.{IsAscending}
 use Rattle.fc_base.specs.Parts.{below, at}
 use Rattle.fc_base.specs.OneKey.{put_by}
 use Rattle.fc_tree_node.specs.Weave.{weave}
-use Rattle.fc_tree_node.specs.declared.node.Node.{Node}
-use Rattle.fc_tree_node.specs.Node.{own_pairs, children_of, child_at, pairs_of, IsLevelled}
+use Rattle.fc_tree_node.specs.declared.node.Node.{Node, out-Node}
+use Rattle.fc_tree_node.specs.Bare.{key_alone, bare}
+use Rattle.fc_tree_node.specs.Node.{items_or_none, own_pairs, children_of, child_at, pairs_of, IsLevelled}
 use Rattle.fc_tree_node.specs.Place.{before_child, after_child, IsPlace, place_pair, before_pair, after_pair}
-use Rattle.fc_tree_search.specs.Passed.{lower_count, stop_count, down_count, passed}
-use Rattle.fc_tree_node.specs.Node.{IsTree}
 use Rattle.fc_tree_search.specs.Found.{IsFound}
 use Rattle.fc_tree_search.specs.Written.{set_value, with_value, with_child, written}
-use Rattle.fc_tree_node.proofs.Pairs.{IsBelow, child_below}
-use Rattle.fc_tree_node.proofs.Made.{own_made, children_made, field_made}
-use Rattle.fc_tree_node.proofs.Lent.{replaced, replaced_levels}
-use Rattle.fc_tree_node.proofs.Gaps.{item_there, step_levels, place_pairs}
-use Rattle.fc_tree_search.proofs.PassedFacts.{passed_in, passed_is}
+use Rattle.fc_tree_node.proofs.Made.{own_made, children_made}
+use Rattle.fc_tree_node.proofs.Lent.{replaced}
+use Rattle.fc_tree_node.proofs.Bare.{bare_made, same_size, same_levels}
+use Rattle.fc_tree_node.proofs.Gaps.{item_there, place_pairs}
 use Rattle.fc_tree_search.proofs.SearchFacts.{found_at}
 
 -- a list of pairs with another value at a place
@@ -47,10 +41,10 @@ module _ {K V : Type 0} where
   value_at (x ∷ s) zero w e d h q = ap (λ y. (y.0, w)) (sym q)
   value_at (x ∷ s) (suc i) w e d h q = value_at s i w e d (omega arith) q
 
-  pub length_value : (s : List (K × V)) (i : ℕ) (w : V) → length (set_value s i w) ≡ length s
-  length_value [] i w = refl
-  length_value (e ∷ s) zero w = refl
-  length_value (e ∷ s) (suc i) w = ap suc (length_value s i w)
+  key_value : (s : List (K × V)) (i : ℕ) (w : V) → map key_alone (set_value s i w) ≡ map key_alone s
+  key_value [] i w = refl
+  key_value (e ∷ s) zero w = refl
+  key_value (e ∷ s) (suc i) w = ap (λ zs. key_alone e ∷ zs) (key_value s i w)
 
   module _ {Z : Type 0} where
     -- the parts of the changed nodes
@@ -60,32 +54,34 @@ module _ {K V : Type 0} where
     pub value_children : (n : Node K V Z) (i : ℕ) (w : V) → children_of (with_value n i w) ≡ children_of n
     value_children n i w = children_made _
 
-    pub value_size : (n : Node K V Z) (i : ℕ) (w : V) → length (own_pairs (with_value n i w)) ≡ length (own_pairs n)
-    value_size n i w = ap length (value_own n i w) ∙ length_value (own_pairs n) i w
+    -- the tree without its values stays
+    pub bare_value : (n : Node K V Z) (i : ℕ) (w : V) → bare (with_value n i w) ≡ bare n
+    bare_value n i w = bare_made n _ _ (key_value (own_pairs n) i w) refl
 
-    -- the levels stay
-    pub value_levels : (h : ℕ) (n : Node K V Z) (i : ℕ) (w : V) → IsLevelled h n → IsLevelled h (with_value n i w)
-    value_levels zero n i w l =
-        let e = value_size n i w in
-        (omega (arith, l.0), field_made _ ∙ l.1)
-    value_levels (suc h) n i w l =
-        let e = value_size n i w in
-        let f : length (children_of (with_value n i w)) ≡ length (children_of n) = ap length (value_children n i w) in
-        (omega (arith, l.0), omega arith, subst (AllByRecursion (IsBelow h)) (sym (value_children n i w)) l.2)
+    same_set : (cs : List (Node K V Z)) (i : ℕ) (c d : Node K V Z) → bare c ≡ bare (get_or cs i d) → map bare (slice_set cs i c) ≡ map bare cs
+    same_set [] i c d e = refl
+    same_set (x ∷ cs) zero c d e = ap (λ b. b ∷ map bare cs) e
+    same_set (x ∷ cs) (suc i) c d e = ap (λ bs. bare x ∷ bs) (same_set cs i c d e)
 
-    -- the levels of the tree in which a value is written
-    pub written_levels : (path : List ℕ) (h : ℕ) (n : Node K V Z) (w : V) → IsLevelled h n → IsPlace path n
-        → IsLevelled h (written n path w) × (length (own_pairs (written n path w)) ≡ length (own_pairs n))
+    same_in : (o : Option (List (Node K V Z))) (i : ℕ) (c d : Node K V Z) → bare c ≡ bare (get_or (items_or_none o) i d)
+        → option_map (map bare) (option_map (λ cs. slice_set cs i c) o) ≡ option_map (map bare) o
+    same_in None i c d e = refl
+    same_in (Some cs) i c d e = ap Some (same_set cs i c d e)
+
+    pub bare_set : (n : Node K V Z) (i : ℕ) (c : Node K V Z) → bare c ≡ bare (child_at n i) → bare (with_child n i c) ≡ bare n
+    bare_set n i c e = bare_made n _ _ refl (same_in (out-Node K V Z n).children i c n e)
+
+    pub bare_written : (path : List ℕ) (n : Node K V Z) (w : V) → bare (written n path w) ≡ bare n
     unfolding written
-    written_levels [] h n w l q = absurd q
-    written_levels (i ∷ []) h n w l q = (value_levels h n i w l, value_size n i w)
-    written_levels (i ∷ j ∷ path) zero n w l q = absurd (let s = step_levels zero n i l q.0 in cc)
-    written_levels (i ∷ j ∷ path) (suc h) n w l q =
-        let le : i ≤ length (own_pairs n) = omega arith in
-        let b = child_below h n i l le in
-        let c = written (child_at n i) (j ∷ path) w in
-        let r = written_levels (j ∷ path) h (child_at n i) w b.1 q.1 in
-        (replaced_levels h (replaced n i c) l (omega arith, r.0), (replaced n i c).size)
+    bare_written [] n w = refl
+    bare_written (i ∷ []) n w = bare_value n i w
+    bare_written (i ∷ j ∷ path) n w = bare_set n i (written (child_at n i) (j ∷ path) w) (bare_written (j ∷ path) (child_at n i) w)
+
+    pub value_size : (n : Node K V Z) (i : ℕ) (w : V) → length (own_pairs (with_value n i w)) ≡ length (own_pairs n)
+    value_size n i w = same_size n (with_value n i w) (bare_value n i w)
+
+    pub written_levels : (path : List ℕ) (h : ℕ) (n : Node K V Z) (w : V) → IsLevelled h n → IsLevelled h (written n path w)
+    written_levels path h n w l = same_levels n (written n path w) (bare_written path n w) h l
 
     -- the place stays, with the value in its pair
     pub record IsWrittenAt (path : List ℕ) (n m : Node K V Z) (p : K × V) (w : V) : Type 0 where
@@ -139,90 +135,20 @@ module _ {K V : Type 0} where
     pub written_place : (path : List ℕ) (n : Node K V Z) (w : V) → IsPlace path n → IsPlace path (written n path w)
     written_place path n w q = let x = pair_there path n q in (written_at path n x.0 w q x.1).place
 
-    pub written_tree : (path : List ℕ) (n : Node K V Z) (w : V) → IsTree n → IsPlace path n → IsTree (written n path w)
-    written_tree path n w t q = (t.0, t.1, (written_levels path t.0 n w t.2 q).0)
-
     -- the pairs are the same but for the value
     pub written_pairs : (path : List ℕ) (h : ℕ) (n : Node K V Z) (p : K × V) (w : V) → IsLevelled h n → IsPlace path n → place_pair path n ≡ Some p
         → pairs_of (written n path w) ≡ before_pair path n ++ (p.0, w) ∷ after_pair path n
     written_pairs path h n p w l q e =
         let m = written n path w in
         let r = written_at path n p w q e in
-        let c = place_pairs path h m (written_levels path h n w l q).0 r.place in
+        let c = place_pairs path h m (written_levels path h n w l) r.place in
         let both : Some c.pair ≡ Some (p.0, w) = sym c.is ∙ r.pair in
         let x : c.pair ≡ (p.0, w) = cc in
         c.parts ∙ ap (λ zs. zs ++ c.pair ∷ after_pair path m) r.before ∙ ap (λ y. before_pair path n ++ y ∷ after_pair path m) x
         ∙ ap (λ zs. before_pair path n ++ (p.0, w) ∷ zs) r.after
 
--- the pairs stay in order
-module _ {K V : Type 0} (cmp : K → K → Ordering) where
-  same_keys : (P : K → Type 0) (L R : List (K × V)) (p : K × V) (w : V) → AllByRecursion (λ e. P e.0) (L ++ p ∷ R)
-      → AllByRecursion (λ e. P e.0) (L ++ (p.0, w) ∷ R)
-  same_keys P [] R p w a = a
-  same_keys P (x ∷ L) R p w a = (a.0, same_keys P L R p w a.1)
-
-  ascending_value : (L R : List (K × V)) (p : K × V) (w : V) → IsAscending cmp (L ++ p ∷ R) → IsAscending cmp (L ++ (p.0, w) ∷ R)
-  ascending_value [] R p w a = a
-  ascending_value (x ∷ L) R p w a = (same_keys (λ k. cmp x.0 k ≡ Less) L R p w a.0, ascending_value L R p w a.1)
-
-  module _ {Z : Type 0} where
-    pub written_ascending : (path : List ℕ) (h : ℕ) (n : Node K V Z) (w : V) → IsLevelled h n → IsPlace path n → IsAscending cmp (pairs_of n)
-        → IsAscending cmp (pairs_of (written n path w))
-    written_ascending path h n w l q a =
-        let c = place_pairs path h n l q in
-        subst (IsAscending cmp) (sym (written_pairs path h n c.pair w l q c.is))
-        (ascending_value (before_pair path n) (after_pair path n) c.pair w (subst (IsAscending cmp) c.parts a))
-
--- what a search passes stays
 module _ {K Q V : Type 0} (cmp : K → Q → Ordering) (k : Q) where
-  value_lower : (s : List (K × V)) (i : ℕ) (w : V) → lower_count cmp k (set_value s i w) ≡ lower_count cmp k s
-  value_lower [] i w = refl
-  value_lower (e ∷ s) zero w = one (is_lt (cmp e.0 k)) (e.0, w) e (below cmp s k)
-    where
-      one : (b : Bool) (x y : K × V) (zs : List (K × V)) → length (cond b (x ∷ zs) zs) ≡ length (cond b (y ∷ zs) zs)
-      one true x y zs = refl
-      one false x y zs = refl
-  value_lower (e ∷ s) (suc i) w = more (is_lt (cmp e.0 k)) (below cmp (set_value s i w) k) (below cmp s k) (value_lower s i w)
-    where
-      more : (b : Bool) (xs ys : List (K × V)) → length xs ≡ length ys → length (cond b (e ∷ xs) xs) ≡ length (cond b (e ∷ ys) ys)
-      more true xs ys h = ap suc h
-      more false xs ys h = h
-
-  value_any : (test : K → Bool) (s : List (K × V)) (i : ℕ) (w : V) → list_any (λ e. test e.0) (set_value s i w) ≡ list_any (λ e. test e.0) s
-  value_any test [] i w = refl
-  value_any test (e ∷ s) zero w = refl
-  value_any test (e ∷ s) (suc i) w = ap (λ b. test e.0 || b) (value_any test s i w)
-
-  value_passed : (s : List (K × V)) (ns : List ℕ) (i : ℕ) (w : V) → passed_in cmp k (set_value s i w) ns ≡ passed_in cmp k s ns
-  value_passed s ns i w =
-      let l = value_lower s i w in
-      let st : stop_count cmp k (set_value s i w) ≡ stop_count cmp k s = ap (λ b. cond b 1 0) (value_any (λ x. not (is_lt (cmp x k))) s i w) in
-      let d : down_count cmp k (set_value s i w) ns ≡ down_count cmp k s ns =
-      ap (λ b. cond b 0 (slice_index ns (lower_count cmp k (set_value s i w)))) (value_any (λ x. is_eq (cmp x k)) s i w)
-      ∙ ap (λ j. cond (list_any (λ e. is_eq (cmp e.0 k)) s) 0 (slice_index ns j)) l in
-      omega arith
-
   module _ {Z : Type 0} where
-    counts_set : (cs : List (Node K V Z)) (i : ℕ) (c d : Node K V Z) → passed cmp k c ≡ passed cmp k (get_or cs i d)
-        → map (passed cmp k) (slice_set cs i c) ≡ map (passed cmp k) cs
-    counts_set [] i c d e = refl
-    counts_set (x ∷ cs) zero c d e = ap (λ m. m ∷ map (passed cmp k) cs) e
-    counts_set (x ∷ cs) (suc i) c d e = ap (λ ms. passed cmp k x ∷ ms) (counts_set cs i c d e)
-
-    pub written_passed : (path : List ℕ) (n : Node K V Z) (w : V) → passed cmp k (written n path w) ≡ passed cmp k n
-    unfolding written
-    written_passed [] n w = refl
-    written_passed (i ∷ []) n w =
-        passed_is cmp k (with_value n i w) ∙ ap (λ cs. passed_in cmp k (own_pairs (with_value n i w)) (map (passed cmp k) cs)) (value_children n i w)
-        ∙ ap (λ s. passed_in cmp k s (map (passed cmp k) (children_of n))) (value_own n i w)
-        ∙ value_passed (own_pairs n) (map (passed cmp k) (children_of n)) i w ∙ sym (passed_is cmp k n)
-    written_passed (i ∷ j ∷ path) n w =
-        let c = written (child_at n i) (j ∷ path) w in
-        let m = replaced n i c in
-        passed_is cmp k (with_child n i c) ∙ ap (λ cs. passed_in cmp k (own_pairs (with_child n i c)) (map (passed cmp k) cs)) m.child
-        ∙ ap (λ ns. passed_in cmp k (own_pairs (with_child n i c)) ns) (counts_set (children_of n) i c n (written_passed (j ∷ path) (child_at n i) w))
-        ∙ ap (λ s. passed_in cmp k s (map (passed cmp k) (children_of n))) m.same ∙ sym (passed_is cmp k n)
-
     -- a value written at the place of a key's pair is the value put at the key
     pub written_put : (path : List ℕ) (h : ℕ) (n : Node K V Z) (j : K) (w : V) → IsLevelled h n → IsFound cmp k n path
         → pairs_of (written n path w) ≡ put_by cmp (pairs_of n) k j w

@@ -90,7 +90,7 @@ fn next_at_own<'a, K, V, A: Handle>(
     requires levels { (h : ℕ) × IsLevelled h node.now }
     requires place { place < length (own_pairs node.now) }
     ensures equal { takes_equal ≡ true → option_copied result ≡ slice_get (own_pairs node.now) place }
-    ensures past { takes_equal ≡ false → (rest : List (K × V)) → option_copied next.entry ≡ first_item rest → option_copied result ≡ first_item (after_own node.now place ++ rest) }
+    ensures beside { takes_equal ≡ false → (rest : List (K × V)) → option_copied next.entry ≡ first_item rest → option_copied result ≡ first_item (after_own node.now place ++ rest) }
 {
     if takes_equal {
         return Some(node.pair(place));
@@ -108,7 +108,7 @@ fn last_at_own<'a, K, V, A: Handle>(
     requires levels { (h : ℕ) × IsLevelled h node.now }
     requires place { place < length (own_pairs node.now) }
     ensures equal { takes_equal ≡ true → option_copied result ≡ slice_get (own_pairs node.now) place }
-    ensures past { takes_equal ≡ false → (lead : List (K × V)) → option_copied last.entry ≡ last_item lead → option_copied result ≡ last_item (lead ++ before_own node.now place) }
+    ensures beside { takes_equal ≡ false → (lead : List (K × V)) → option_copied last.entry ≡ last_item lead → option_copied result ≡ last_item (lead ++ before_own node.now place) }
 {
     if takes_equal {
         return Some(node.pair(place));
@@ -118,7 +118,7 @@ fn last_at_own<'a, K, V, A: Handle>(
 
 // The first pair whose key is above `key`, or equal to it where that is taken.
 #[inline(always)]
-fn first_behind<'a, K: Ord, V, Q: Query<K>, A: Handle>(
+fn lower_bound<'a, K: Ord, V, Q: Query<K>, A: Handle>(
     root: &'a Node<K, V, A>,
     key: Q,
     takes_equal: bool,
@@ -149,7 +149,7 @@ fn first_behind<'a, K: Ord, V, Q: Query<K>, A: Handle>(
 
 // The last pair whose key is below `key`, or equal to it where that is taken.
 #[inline(always)]
-fn last_in_front<'a, K: Ord, V, Q: Query<K>, A: Handle>(
+fn upper_bound<'a, K: Ord, V, Q: Query<K>, A: Handle>(
     root: &'a Node<K, V, A>,
     key: Q,
     takes_equal: bool,
@@ -192,7 +192,7 @@ pub fn first_from<'a, K: Ord, V, Q: Query<K>, A: Handle>(
     ensures bounded { (h : ℕ) → IsLevelled h root.now → count.new.comparisons ≤ count.old.comparisons + level_comparisons * (h + 1) }
     ensures moves { count.new.moves ≡ count.old.moves }
 {
-    first_behind(root, key, true, count)
+    lower_bound(root, key, true, count)
 }
 
 /// The first pair of the tree at `root` whose key is above `key`. It compares each key that a search
@@ -209,7 +209,7 @@ pub fn first_after<'a, K: Ord, V, Q: Query<K>, A: Handle>(
     ensures bounded { (h : ℕ) → IsLevelled h root.now → count.new.comparisons ≤ count.old.comparisons + level_comparisons * (h + 1) }
     ensures moves { count.new.moves ≡ count.old.moves }
 {
-    first_behind(root, key, false, count)
+    lower_bound(root, key, false, count)
 }
 
 /// The last pair of the tree at `root` whose key is not above `key`. It compares each key that a search
@@ -226,7 +226,7 @@ pub fn last_to<'a, K: Ord, V, Q: Query<K>, A: Handle>(
     ensures bounded { (h : ℕ) → IsLevelled h root.now → count.new.comparisons ≤ count.old.comparisons + level_comparisons * (h + 1) }
     ensures moves { count.new.moves ≡ count.old.moves }
 {
-    last_in_front(root, key, true, count)
+    upper_bound(root, key, true, count)
 }
 
 /// The last pair of the tree at `root` whose key is below `key`. It compares each key that a search
@@ -243,5 +243,5 @@ pub fn last_before<'a, K: Ord, V, Q: Query<K>, A: Handle>(
     ensures bounded { (h : ℕ) → IsLevelled h root.now → count.new.comparisons ≤ count.old.comparisons + level_comparisons * (h + 1) }
     ensures moves { count.new.moves ≡ count.old.moves }
 {
-    last_in_front(root, key, false, count)
+    upper_bound(root, key, false, count)
 }

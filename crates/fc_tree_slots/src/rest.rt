@@ -1,4 +1,4 @@
-//! What is left of a list whose items are taken from either end: those behind a taken one stay in their places.
+//! What is left of a list whose items are taken from either end: those after a taken one stay in their places.
 ghost use Rattle.std.specs.Prelude.{◌≡◌, ◌<◌, [], ◌∷◌, ◌++◌, length, slice_index_or};
 ghost use Rattle.fc_tree_slots.specs.Cells.{present, IsPacked};
 

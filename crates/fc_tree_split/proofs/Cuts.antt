@@ -7,7 +7,7 @@ use Rattle.std.proofs.lemmas.List.{length-drop}
 use Rattle.fc_base.specs.Sizes.{most_height}
 use Rattle.fc_tree_node.specs.Weave.{weave, before_list}
 use Rattle.fc_tree_node.specs.declared.node.Node.{Node}
-use Rattle.fc_tree_node.specs.Node.{own_pairs, children_of, child_at, pairs_of, IsLeaf, IsInner, IsLevelled, IsSound, IsSoundRoot, IsBlankLeaf}
+use Rattle.fc_tree_node.specs.Node.{own_pairs, children_of, child_at, pairs_of, IsLeaf, IsInner, IsLevelled, IsSound, IsSoundRoot, IsEmptyLeaf}
 use Rattle.fc_tree_node.specs.Bordered.{FirstThen, IsLeftBordered, IsRightBordered}
 use Rattle.fc_tree_node.specs.Path.{IsPath, before_gap, after_gap}
 use Rattle.fc_tree_node.specs.Place.{before_child, after_child, after_own, IsPlace, place_pair, before_pair, after_pair}
@@ -19,7 +19,7 @@ use Rattle.fc_tree_node.proofs.Lent.{lent_is, IsReplaced}
 use Rattle.fc_tree_node.proofs.Gaps.{take_item, after_child_pair, step_levels}
 use Rattle.fc_tree_node.proofs.PathSteps.{one_step, more_steps}
 use Rattle.fc_tree_node.proofs.Siblings.{around_one}
-use Rattle.fc_tree_split.specs.Cut.{IsBlank, IsCutPath, IsCutInTwo}
+use Rattle.fc_tree_split.specs.Cut.{IsEmpty, IsCutPath, IsCutInTwo}
 use Rattle.fc_tree_node.proofs.Formed.{leaf_or_inner}
 use Rattle.fc_tree_node.specs.Measures.{height_of}
 use Rattle.fc_tree_node.proofs.MeasureFacts.{levelled_height}
@@ -35,20 +35,20 @@ module _ {X : Type 0} where
 module _ {K V : Type 0} where
   module _ {Z : Type 0} where
     -- the border before the cut
-    blank_pairs : (h : ℕ) (n : Node K V Z) → IsBlank h n → pairs_of n ≡ []
-    blank_pairs zero n b = leaf_pairs n b.1 ∙ b.0
-    blank_pairs (suc h) n b =
+    empty_pairs : (h : ℕ) (n : Node K V Z) → IsEmpty h n → pairs_of n ≡ []
+    empty_pairs zero n b = leaf_pairs n b.1 ∙ b.0
+    empty_pairs (suc h) n b =
         pairs_is n ∙ ap (λ ps. weave (map pairs_of (children_of n)) ps) b.0 ∙ ap (λ cs. weave (map pairs_of cs) []) b.2 ∙ append-nil (pairs_of b.1)
-        ∙ blank_pairs h b.1 b.3
+        ∙ empty_pairs h b.1 b.3
 
-    blank_inner : (h : ℕ) (n : Node K V Z) → IsBlank (suc h) n → IsInner n
-    blank_inner h n b = let e : length (own_pairs n) ≡ 0 = ap length b.0 in let f : length (children_of n) ≡ 1 = ap length b.2 in omega arith
+    empty_inner : (h : ℕ) (n : Node K V Z) → IsEmpty (suc h) n → IsInner n
+    empty_inner h n b = let e : length (own_pairs n) ≡ 0 = ap length b.0 in let f : length (children_of n) ≡ 1 = ap length b.2 in omega arith
 
-    blank_bordered : (h : ℕ) (n : Node K V Z) → IsBlank h n → IsLeftBordered h n
-    blank_bordered zero n b = let e : length (own_pairs n) ≡ 0 = ap length b.0 in (omega arith, b.1)
-    blank_bordered (suc h) n b =
+    empty_bordered : (h : ℕ) (n : Node K V Z) → IsEmpty h n → IsLeftBordered h n
+    empty_bordered zero n b = let e : length (own_pairs n) ≡ 0 = ap length b.0 in (omega arith, b.1)
+    empty_bordered (suc h) n b =
         let e : length (own_pairs n) ≡ 0 = ap length b.0 in
-        (omega arith, blank_inner h n b, subst (FirstThen (IsLeftBordered h) (IsSound h)) (sym b.2) (blank_bordered h b.1 b.3, tt))
+        (omega arith, empty_inner h n b, subst (FirstThen (IsLeftBordered h) (IsSound h)) (sym b.2) (empty_bordered h b.1 b.3, tt))
 
     -- paths that a cut may take
     pub record IsCutAlong (h : ℕ) (p : List ℕ) (n : Node K V Z) : Type 0 where
@@ -113,8 +113,8 @@ module _ {K V : Type 0} where
           ∙ ap (λ cs. weave (map pairs_of cs) (take last (own_pairs n))) (f ∙ ap (λ k. take k (children_of n)) (add-one last))
           ∙ ap (λ q. before_pair q n) (sym (one_step p one))
 
-      pub end_back : (h : ℕ) → IsBlank h r → pairs_of other ≡ pairs_of r ++ after_gap (last ∷ []) n → pairs_of other ≡ after_gap p n
-      end_back h b e = e ∙ ap (λ zs. zs ++ after_gap (last ∷ []) n) (blank_pairs h r b) ∙ ap (λ q. after_gap q n) (sym (one_step p one))
+      pub end_back : (h : ℕ) → IsEmpty h r → pairs_of other ≡ pairs_of r ++ after_gap (last ∷ []) n → pairs_of other ≡ after_gap p n
+      end_back h b e = e ∙ ap (λ zs. zs ++ after_gap (last ∷ []) n) (empty_pairs h r b) ∙ ap (λ q. after_gap q n) (sym (one_step p one))
 
       pub end_front_levels : (h : ℕ) → IsLevelled h n → own_pairs new ≡ take last (own_pairs n) → children_of new ≡ take (last + 1) (children_of n)
           → AreAlike n new → IsRightBordered h new
@@ -131,14 +131,14 @@ module _ {K V : Type 0} where
             subst (AllByRecursion (IsSound h)) (sym f) (all_take (IsSound h) (last + 1) (children_of n) l.2),
           )
 
-      pub end_back_levels : (h : ℕ) → IsLevelled h n → IsBlank h r → own_pairs other ≡ own_pairs r ++ drop last (own_pairs n)
+      pub end_back_levels : (h : ℕ) → IsLevelled h n → IsEmpty h r → own_pairs other ≡ own_pairs r ++ drop last (own_pairs n)
           → children_of other ≡ children_of r ++ drop (last + 1) (children_of n) → AreAlike n other → IsLeftBordered h other
       end_back_levels zero l b e f a =
           let t = ap length e ∙ ap (λ ps. length (ps ++ drop last (own_pairs n))) b.0 ∙ length-drop last (own_pairs n) in
           (omega arith, leaf_alike n other l.1 a)
       end_back_levels (suc h) l b e f a =
           let t = ap length e ∙ ap (λ ps. length (ps ++ drop last (own_pairs n))) b.0 ∙ length-drop last (own_pairs n) in
-          let s : IsLeftBordered (suc h) r = blank_bordered (suc h) r b in
+          let s : IsLeftBordered (suc h) r = empty_bordered (suc h) r b in
           let some : length (children_of r) ≡ 1 = ap length b.2 in (
             omega arith,
             inner_alike n other l.1 a,
@@ -161,10 +161,10 @@ module _ {K V : Type 0} where
       pub right_inner : IsInner right
       pub right_own : own_pairs right ≡ drop (get_or p 0 0) (own_pairs n)
       pub top : Node K V Z
-      pub blank : IsBlank below top
+      pub empty : IsEmpty below top
       pub right_children : children_of right ≡ top ∷ drop (suc (get_or p 0 0)) (children_of n)
 
-    pub forked : (h : ℕ) (p : List ℕ) (n r left right : Node K V Z) → (length p ≡ 1 → ⊥) → IsCutAlong h p n → IsLevelled h n → IsBlank h r
+    pub forked : (h : ℕ) (p : List ℕ) (n r left right : Node K V Z) → (length p ≡ 1 → ⊥) → IsCutAlong h p n → IsLevelled h n → IsEmpty h r
         → own_pairs left ≡ take (get_or p 0 0) (own_pairs n) → children_of left ≡ take (get_or p 0 0 + 1) (children_of n)
         → own_pairs right ≡ own_pairs r ++ drop (get_or p 0 0) (own_pairs n) → children_of right ≡ children_of r ++ drop (get_or p 0 0 + 1) (children_of n)
         → AreAlike n left → AreAlike left right → IsForked h p n left right
@@ -195,7 +195,7 @@ module _ {K V : Type 0} where
           right_inner = inner_alike left right inner a₂;
           right_own = e₂ ∙ ap (λ ps. ps ++ drop i (own_pairs n)) b.0;
           top = b.1;
-          blank = b.3;
+          empty = b.3;
           right_children = f₂ ∙ ap (λ cs. cs ++ drop (i + 1) (children_of n)) b.2 ∙ ap (λ j. b.1 ∷ drop j (children_of n)) (add-one i);
         }
       where
@@ -222,7 +222,7 @@ module _ {K V : Type 0} where
       pub record IsForkedOn (child other : Node K V Z) : Type 0 where
         pub is : child ≡ child_at left step
         pub levels : IsLevelled f.below child
-        pub blank : IsBlank f.below other
+        pub empty : IsEmpty f.below other
 
       pub forked_on : (child other : Node K V Z) → child ≡ get_or (children_of left) step child → other ≡ get_or (children_of right) 0 other
           → IsForkedOn child other
@@ -233,7 +233,7 @@ module _ {K V : Type 0} where
           record {
             is = is;
             levels = subst (IsLevelled f.below) (sym (is ∙ f.left_child)) (child_below f.below n step f.levels f.le).1;
-            blank = subst (IsBlank f.below) (sym top) f.blank;
+            empty = subst (IsEmpty f.below) (sym top) f.empty;
           }
 
       pub fork_front : (new child c : Node K V Z) → IsReplaced left new step c → child ≡ child_at left step → pairs_of c ≡ before_pair rest child
@@ -284,19 +284,19 @@ module _ {K V : Type 0} where
     within_sound h (Some n) le w = (w.0, omega arith, w.2)
 
     -- the border that is made for a leaf, and for a node above one
-    blank_leaf : (h : ℕ) (n top : Node K V Z) → IsLeaf n → IsBlankLeaf top → IsLevelled h n → IsBlank h top
-    blank_leaf zero n top e b l = b
-    blank_leaf (suc h) n top e b l = absurd (leaf_or_inner n e l.1)
+    empty_leaf : (h : ℕ) (n top : Node K V Z) → IsLeaf n → IsEmptyLeaf top → IsLevelled h n → IsEmpty h top
+    empty_leaf zero n top e b l = b
+    empty_leaf (suc h) n top e b l = absurd (leaf_or_inner n e l.1)
 
-    pub blank_made : {E : Type 0} (n : Node K V Z) (made : Result (Node K V Z) E) → IsLeaf n → IfOk made IsBlankLeaf
-        → IfOk made (λ b. (h : ℕ) → IsLevelled h n → IsBlank h b)
-    blank_made n (Ok b) e i = λ h l. blank_leaf h n b e i l
-    blank_made n (Err x) e i = i
+    pub empty_made : {E : Type 0} (n : Node K V Z) (made : Result (Node K V Z) E) → IsLeaf n → IfOk made IsEmptyLeaf
+        → IfOk made (λ b. (h : ℕ) → IsLevelled h n → IsEmpty h b)
+    empty_made n (Ok b) e i = λ h l. empty_leaf h n b e i l
+    empty_made n (Err x) e i = i
 
-    pub blank_above : (h : ℕ) (n top below child : Node K V Z) → (IsLeaf n → ⊥) → own_pairs top ≡ [] → children_of top ≡ below ∷ [] → child ≡ child_at n 0
-        → ((g : ℕ) → IsLevelled g child → IsBlank g below) → IsLevelled h n → IsBlank h top
-    blank_above zero n top below child up e f c b l = absurd (up l.1)
-    blank_above (suc h) n top below child up e f c b l = (e, below, f, b h (subst (IsLevelled h) (sym c) (child_below h n 0 l (omega arith)).1))
+    pub empty_above : (h : ℕ) (n top below child : Node K V Z) → (IsLeaf n → ⊥) → own_pairs top ≡ [] → children_of top ≡ below ∷ [] → child ≡ child_at n 0
+        → ((g : ℕ) → IsLevelled g child → IsEmpty g below) → IsLevelled h n → IsEmpty h top
+    empty_above zero n top below child up e f c b l = absurd (up l.1)
+    empty_above (suc h) n top below child up e f c b l = (e, below, f, b h (subst (IsLevelled h) (sym c) (child_below h n 0 l (omega arith)).1))
 
     -- the first child of a node above the leaves
     pub record IsFirst (n : Node K V Z) : Type 0 where

@@ -1,7 +1,7 @@
 -- A tree that is cut in two along a path.
 use Rattle.std.specs.Prelude.{◌≡◌, ℕ, zero, suc, List, [], ◌∷◌, Some, None, ◌⊎◌}
 use Rattle.fc_tree_node.specs.declared.node.Node.{Node}
-use Rattle.fc_tree_node.specs.Node.{own_pairs, children_of, IsBlankLeaf}
+use Rattle.fc_tree_node.specs.Node.{own_pairs, children_of, IsEmptyLeaf}
 use Rattle.fc_tree_node.specs.LeafGap.{IsLeafGap}
 use Rattle.fc_tree_node.specs.Place.{IsPlace}
 use Rattle.fc_tree_node.specs.Tree.{Map, entries}
@@ -9,9 +9,9 @@ use Rattle.fc_tree_node.specs.TreePlace.{before_gap_in, after_gap_in, before_pai
 
 module _ {K V Z : Type 0} where
   -- Nodes without pairs, each the only child of the one above it, down to a leaf so many levels below.
-  abbrev pub IsBlank : ℕ → Node K V Z → Type 0
-  IsBlank zero n = IsBlankLeaf n
-  IsBlank (suc h) n = (own_pairs n ≡ []) × (below : Node K V Z) × (children_of n ≡ below ∷ []) × IsBlank h below
+  abbrev pub IsEmpty : ℕ → Node K V Z → Type 0
+  IsEmpty zero n = IsEmptyLeaf n
+  IsEmpty (suc h) n = (own_pairs n ≡ []) × (below : Node K V Z) × (children_of n ≡ below ∷ []) × IsEmpty h below
 
   -- The path leads to a pair, or down to a gap between the pairs of a leaf.
   abbrev pub IsCutPath : List ℕ → Node K V Z → Type 0

@@ -5,7 +5,7 @@ ghost use Rattle.fc_tree_node.specs.Path.{IsPath, after_gap};
 ghost use Rattle.fc_tree_node.specs.Place.{before_pair};
 ghost use Rattle.fc_tree_node.specs.Tree.{entries, IsSoundMap, IsSoundWithin};
 ghost use Rattle.fc_tree_node.specs.Bordered.{IsLeftBordered, IsRightBordered};
-ghost use Rattle.fc_tree_split.specs.Cut.{IsBlank, IsCutPath, IsCutPathIn, IsCutInTwo};
+ghost use Rattle.fc_tree_split.specs.Cut.{IsEmpty, IsCutPath, IsCutPathIn, IsCutInTwo};
 
 use crate::counting::count_in;
 use crate::rebalancing::{rebalance_left, rebalance_right};
@@ -84,7 +84,7 @@ pub fn try_border<K: Drop, V: Drop, A: Handle>(
     node: &Node<K, V, A>,
 ) -> Result<Node<K, V, A>, TryReserveError>
     requires { (h : ℕ) × IsLevelled h node.now }
-    ensures ok { IfOk result (λ top. (h : ℕ) → IsLevelled h node.now → IsBlank h top) }
+    ensures ok { IfOk result (λ top. (h : ℕ) → IsLevelled h node.now → IsEmpty h top) }
     ensures error { IfErr result (λ e. e ≡ TryReserveError.AllocError) }
 {
     if node.is_leaf() {
@@ -106,7 +106,7 @@ pub fn cut<K: Drop, V: Drop, A: Handle>(
 ) -> (Option<Node<K, V, A>>, Option<Node<K, V, A>>)
     requires levels { (h : ℕ) × IsLevelled h root }
     requires path { IsCutPath path.now root }
-    requires border { (h : ℕ) → IsLevelled h root → IsBlank h border }
+    requires border { (h : ℕ) → IsLevelled h root → IsEmpty h border }
     ensures pairs { IsCutInTwo path.now (Some root) result.0 result.1 }
     ensures levels { (h : ℕ) → IsLevelled h root → IsSoundWithin h result.0 × IsSoundWithin h result.1 }
 {
@@ -125,11 +125,11 @@ fn cut_into<K: Drop, V: Drop, A: Handle>(
 )
     requires some { 0 < length path.now }
     requires path { IsPath path.now node.old }
-    requires levels { (h : ℕ) × (length path.now ≤ h + 1) × IsLevelled h node.old × IsBlank h right.old }
+    requires levels { (h : ℕ) × (length path.now ≤ h + 1) × IsLevelled h node.old × IsEmpty h right.old }
     ensures front { pairs_of node.new ≡ before_pair path.now node.old }
     ensures back { pairs_of right.new ≡ after_gap path.now node.old }
-    ensures front_levels { (h : ℕ) → IsLevelled h node.old → IsBlank h right.old → IsRightBordered h node.new }
-    ensures back_levels { (h : ℕ) → IsLevelled h node.old → IsBlank h right.old → IsLeftBordered h right.new }
+    ensures front_levels { (h : ℕ) → IsLevelled h node.old → IsEmpty h right.old → IsRightBordered h node.new }
+    ensures back_levels { (h : ℕ) → IsLevelled h node.old → IsEmpty h right.old → IsLeftBordered h right.new }
 {
     let i = path[0] as usize;
     node.move_suffix(i, right, count);

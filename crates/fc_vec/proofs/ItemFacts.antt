@@ -16,8 +16,8 @@ leading steps s t all [] road y = (all, refl)
 leading steps s t [] (x ∷ given) road y = absurd (road x y.0 y.1)
 leading steps s t (a ∷ all) (x ∷ given) road y =
     let first = road.1 x y.0 y.1 in
-    let behind = leading steps y.0 t all given first.1 y.2 in
-    (behind.0, ap (λ z. z ∷ (given ++ behind.0)) first.0 ∙ ap (λ l. a ∷ l) behind.1)
+    let after = leading steps y.0 t all given first.1 y.2 in
+    (after.0, ap (λ z. z ∷ (given ++ after.0)) first.0 ∙ ap (λ l. a ∷ l) after.1)
 
 module _ {S A : Type 0} (steps : S → Option A → S → Type 0) (s : S) (all given : List A) (road : YieldsList steps (λ x. x) s all) where
   -- What was given until the end is all that the iterator gives.

@@ -31,7 +31,7 @@ fn main(rt: HostRuntime) -> ExitCode {
     ExitCode::from(status)
 }
 
-// The number that is the one argument behind the program's name, if that is what stands there; or no memory for the arguments.
+// The number that is the one argument after the program's name, if that is what stands there; or no memory for the arguments.
 fn bytes_told(rt: &(impl Env + AllocGlobal)) -> Result<Option<usize>, TryReserveError> {
     match env::args(rt) {
         Ok(args) => Ok(number_in(args)),
@@ -40,7 +40,7 @@ fn bytes_told(rt: &(impl Env + AllocGlobal)) -> Result<Option<usize>, TryReserve
     }
 }
 
-// The number that stands alone behind the first argument.
+// The number that stands alone after the first argument.
 fn number_in(args: Args) -> Option<usize> {
     let mut args = args;
     let _program = args.next()?;

@@ -153,7 +153,7 @@ fn puts<'a>(
         && reservation.places().wrapping_add(used) == places
 }
 
-// Whether room for so many new numbers, each one more than one of the numbers or of those behind them, serves them in an order that jumps by the
+// Whether room for so many new numbers, each one more than one of the numbers or of those after them, serves them in an order that jumps by the
 // factor, and the numbers that are there beside them.
 fn puts_reserved<'a>(
     map: &mut Map<'a>,

@@ -47,8 +47,8 @@ impl<'a> Bounds<'a> {
     fn let_in_number(&self, number: u64) -> bool {
         let (lo, hi) = (self.lo_key.counted.number, self.hi_key.counted.number);
         let is_after = self.lo == 0 || lo < number || lo == number && self.lo == INCLUDED;
-        let is_ahead = self.hi == 0 || number < hi || number == hi && self.hi == INCLUDED;
-        is_after && is_ahead
+        let is_before = self.hi == 0 || number < hi || number == hi && self.hi == INCLUDED;
+        is_after && is_before
     }
 
     // The numbers that both let in.

@@ -184,7 +184,7 @@ fn is_cloned(map: &Map<'_>, all: Stretch, skipped: u64) -> bool {
     }
 }
 
-// The same of keys, when one was taken in front.
+// The same of keys, when one was taken before.
 fn are_keys_cloned(map: &Map<'_>, all: Stretch) -> bool {
     let mut keys = map.keys();
     let is_taken = keys.gives(true, all.first);

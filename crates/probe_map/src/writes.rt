@@ -138,7 +138,7 @@ fn overwrites<'a>(
     true
 }
 
-// Whether `for_each` visits the pairs that are left when so many were taken in front.
+// Whether `for_each` visits the pairs that are left when so many were taken before.
 fn visits_all(map: &mut Map<'_>, all: Stretch, taken: u64) -> bool {
     let mut walk = map.iter_mut();
     if !gives_some(&mut walk, all, FORTH, taken) {

@@ -1,7 +1,7 @@
 //! Rows of text as words and numbers.
 use std::str::SplitWhitespace;
 
-/// So many words behind the name are read.
+/// So many words after the name are read.
 pub const WORDS: usize = 8;
 
 // The names of the rows that each of the parts, nine by number, answers, which knows a row by its place among them.
@@ -17,7 +17,7 @@ const NAMES: [&str; 9] = [
     "retain extract room",
 ];
 
-/// A number behind marks: '=' includes a bound and '!' excludes it, and '$' and '@' add what a row is repeated with.
+/// A number after marks: '=' includes a bound and '!' excludes it, and '$' and '@' add what a row is repeated with.
 #[derive(Clone, Copy)]
 pub struct Word {
     pub bound: u8,
@@ -86,7 +86,7 @@ impl Row {
     }
 }
 
-/// The words of a line: a name and numbers, behind 'each' or 'table', three numbers of how often, from which and how far on.
+/// The words of a line: a name and numbers, after 'each' or 'table', three numbers of how often, from which and how far on.
 pub fn row_in(line: &str) -> (Repeat, Row) {
     let mut words = line.split_whitespace();
     let first = text_of(words.next());
@@ -130,7 +130,7 @@ fn numbers_in(words: SplitWhitespace<'_>, at: (usize, usize)) -> Row {
     row
 }
 
-// The part that a name is of, and its place there. One that is not known is of a part beyond the last.
+// The part that a name is of, and its place there. One that is not known is of a part after the last.
 fn place_of(name: &str) -> (usize, usize) {
     for part in 0..NAMES.len() {
         if let Some(place) = place_among(NAMES[part], name) {

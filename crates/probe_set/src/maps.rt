@@ -8,7 +8,7 @@ use std::ops::Bound;
 
 type Map = BTreeMap<u64, u64>;
 
-// The odd numbers from 1 on, so many, each with the number behind it.
+// The odd numbers from 1 on, so many, each with the number after it.
 fn odd(alloc: Global, count: u64) -> Result<Map, TryReserveError> {
     let mut map = BTreeMap::new(alloc);
     for i in 0..count {

@@ -1,4 +1,4 @@
-//! The items next to another: before it, not behind it, not before it, and behind it.
+//! The items next to another: before it, not after it, not before it, and after it.
 use crate::item::Item;
 use crate::out::Out;
 use crate::sets::{Numbers, Set, Sets};

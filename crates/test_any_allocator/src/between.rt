@@ -52,7 +52,7 @@ fn out_of_append(
 }
 
 // The other's budget has no byte left. To an empty map the other's leaf goes as it is, and is still out of its budget; where all keys lie
-// beyond, it is hung below a root; and where they take turns, all pairs go into nodes of the map's own budget.
+// after, it is hung below a root; and where they take turns, all pairs go into nodes of the map's own budget.
 #[test]
 fn an_append_asks_the_maps_own_budget(rt: HostRuntime) -> Result<(), Fail> {
     let a = Budget::new(rt.alloc(), AMPLE);
@@ -74,14 +74,14 @@ fn an_append_asks_the_maps_own_budget(rt: HostRuntime) -> Result<(), Fail> {
 }
 
 // What is out where an empty map in `a` took over a full leaf from a map in `b`, and one more number went in.
-fn out_behind_append(a: &Budget<Global>, b: &Budget<Global>) -> Result<Out, TryReserveError> {
+fn out_after_append(a: &Budget<Global>, b: &Budget<Global>) -> Result<Out, TryReserveError> {
     let mut map = Numbers::new(a);
     map.append(&mut numbers(b, 0, CAPACITY, 1)?)?;
     map.try_insert(CAPACITY, CAPACITY)?;
     Ok(out(a, b))
 }
 
-fn out_behind_append_of_sets(
+fn out_after_append_of_sets(
     a: &Budget<Global>,
     b: &Budget<Global>,
 ) -> Result<Out, TryReserveError> {
@@ -95,10 +95,7 @@ fn out_behind_append_of_sets(
 fn what_came_from_another_budget_grows_in_its_own(rt: HostRuntime) -> Result<(), Fail> {
     let a = Budget::new(rt.alloc(), AMPLE);
     let b = Budget::new(rt.alloc(), LEAF);
-    let seen = (
-        out_behind_append(&a, &b)?,
-        out_behind_append_of_sets(&a, &b)?,
-    );
+    let seen = (out_after_append(&a, &b)?, out_after_append_of_sets(&a, &b)?);
     assert!(rt; seen == ((LEAF + INNER, LEAF), (SET_LEAF + SET_INNER, SET_LEAF)));
     assert!(rt; out(&a, &b) == (0, 0));
     Ok(())

@@ -8,7 +8,7 @@ use fc_budget::Budget;
 use std::alloc::Global;
 use std::test::Fail;
 
-// Of numbers in order the first takes a leaf, the 16th a second one and a root, and each ninth behind it, the 25th, 34th and so on, one
+// Of numbers in order the first takes a leaf, the 16th a second one and a root, and each ninth after it, the 25th, 34th and so on, one
 // more. So 4,096 bytes have room for the twelve leaves and the root of up to 114, of 4,016 bytes, and the 115th is refused.
 #[test]
 fn a_budget_of_4096_bytes_has_room_for_114_pairs(rt: HostRuntime) {

@@ -107,7 +107,7 @@ fn a_refused_entry_leaves_the_map(rt: HostRuntime) -> Result<(), Fail> {
     Ok(())
 }
 
-// Puts the number in by nodes that are taken before, with no byte left behind them: how many bytes these are, and whether it was put in.
+// Puts the number in by nodes that are taken before, with no byte left after them: how many bytes these are, and whether it was put in.
 fn puts_in_ready(
     budget: &Budget<Global>,
     map: &mut Numbers<'_>,

@@ -3,7 +3,7 @@
 use crate::numbers::{Numbers, number_at};
 use crate::sizes::{INNER, LEAF};
 use fc_budget::Budget;
-use fc_memory::most_bytes;
+use fc_laws::most_bytes;
 use std::alloc::Global;
 
 // A step that scatters keys over all numbers.

@@ -23,7 +23,7 @@ pub(crate) const OF_ITEMS: [usize; 5] = [
     SET_LEAF + 2 * SET_INNER,
 ];
 
-// Puts the number in behind all others.
+// Puts the number in after all others.
 #[derive(Drop)]
 struct Insertion<'a> {
     map: Numbers<'a>,
@@ -132,7 +132,7 @@ fn a_refused_replacement_leaves_the_set(rt: HostRuntime) -> Result<(), Fail> {
     Ok(())
 }
 
-// Puts a number in behind all others of each map.
+// Puts a number in after all others of each map.
 #[derive(Drop)]
 struct Both<'a> {
     a: Numbers<'a>,
@@ -183,7 +183,7 @@ fn least_of_both(
     least_of_filled(budget, &mut both)
 }
 
-// Whether pairs go in behind so many of one map and each length of the other with as many bytes as two insertions take.
+// Whether pairs go in after so many of one map and each length of the other with as many bytes as two insertions take.
 fn agree_with_insertions(
     budget: &Budget<Global>,
     first: u64,

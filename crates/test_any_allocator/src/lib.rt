@@ -15,6 +15,8 @@ mod clones;
 #[cfg(test)]
 mod entries;
 #[cfg(test)]
+mod examples;
+#[cfg(test)]
 mod extensions;
 #[cfg(test)]
 mod filled;
@@ -26,6 +28,8 @@ mod insertions;
 mod items;
 #[cfg(test)]
 mod least;
+#[cfg(test)]
+mod memory;
 #[cfg(test)]
 mod numbers;
 #[cfg(test)]

@@ -82,7 +82,7 @@ fn least_of(budget: &Budget<Global>, operator: Operator) -> Result<usize, TryRes
     least_of_filled(budget, &mut operation)
 }
 
-// Ten numbers fill no leaf; behind one leaf of 15 come a second one, and a root behind the list that it waits in.
+// Ten numbers fill no leaf; after one leaf of 15 come a second one, and a root after the list that it waits in.
 #[test]
 fn a_refused_operation_leaves_both_sets(rt: HostRuntime) -> Result<(), Fail> {
     let budget = Budget::new(rt.alloc(), AMPLE);

@@ -100,7 +100,7 @@ fn put<'a>(map: &mut Numbers<'a>, reservation: &mut NumberReservation<'a>, numbe
     }
 }
 
-// Puts so many numbers behind 15 with no byte left but the room's.
+// Puts so many numbers after 15 with no byte left but the room's.
 fn put_all<'a>(
     budget: &Budget<Global>,
     map: &mut Numbers<'a>,

@@ -50,7 +50,7 @@ fn least_of_joining(budget: &Budget<Global>, count: u64) -> Result<usize, TryRes
     least_of_filled(budget, &mut joining)
 }
 
-// Of ten one leaf, and of 170 two and a root, each behind the list that it waits in. The others are leaves of both maps.
+// Of ten one leaf, and of 170 two and a root, each after the list that it waits in. The others are leaves of both maps.
 #[test]
 fn a_refused_append_leaves_both_maps(rt: HostRuntime) -> Result<(), Fail> {
     let budget = Budget::new(rt.alloc(), AMPLE);

@@ -28,8 +28,8 @@ fn vectors_are_copied(rt: HostRuntime) -> Result<(), Fail> {
     Ok(())
 }
 
-// Whether copies of the two values come behind the one that is there.
-fn come_behind<T: TryClone + Copy + PartialEq>(
+// Whether copies of the two values come after the one that is there.
+fn come_after<T: TryClone + Copy + PartialEq>(
     alloc: Global,
     there: T,
     sources: &[T],
@@ -50,23 +50,19 @@ fn come_behind<T: TryClone + Copy + PartialEq>(
 
 #[test]
 fn numbers_are_copied_at_once(rt: HostRuntime) -> Result<(), Fail> {
-    assert!(rt; come_behind(rt.alloc(), 5u8, &[6, 7])? && come_behind(rt.alloc(), 5u16, &[6, 7])?);
-    assert!(rt; come_behind(rt.alloc(), 5u32, &[6, 7])? && come_behind(rt.alloc(), 5u64, &[6, 7])?);
+    assert!(rt; come_after(rt.alloc(), 5u8, &[6, 7])? && come_after(rt.alloc(), 5u16, &[6, 7])?);
+    assert!(rt; come_after(rt.alloc(), 5u32, &[6, 7])? && come_after(rt.alloc(), 5u64, &[6, 7])?);
+    assert!(rt; come_after(rt.alloc(), 5i8, &[-6, 7])? && come_after(rt.alloc(), 5i16, &[-6, 7])?);
+    assert!(rt; come_after(rt.alloc(), 5i32, &[-6, 7])? && come_after(rt.alloc(), 5i64, &[-6, 7])?);
     assert!(rt;
-        come_behind(rt.alloc(), 5i8, &[-6, 7])? && come_behind(rt.alloc(), 5i16, &[-6, 7])?
+        come_after(rt.alloc(), 5usize, &[6, 7])? && come_after(rt.alloc(), 5isize, &[-6, 7])?
     );
     assert!(rt;
-        come_behind(rt.alloc(), 5i32, &[-6, 7])? && come_behind(rt.alloc(), 5i64, &[-6, 7])?
+        come_after(rt.alloc(), 5u128, &[6, 7])? && come_after(rt.alloc(), 5i128, &[-6, 7])?
     );
+    assert!(rt; come_after::<char>(rt.alloc(), 'a', &['ß', 'c'])?);
     assert!(rt;
-        come_behind(rt.alloc(), 5usize, &[6, 7])? && come_behind(rt.alloc(), 5isize, &[-6, 7])?
-    );
-    assert!(rt;
-        come_behind(rt.alloc(), 5u128, &[6, 7])? && come_behind(rt.alloc(), 5i128, &[-6, 7])?
-    );
-    assert!(rt; come_behind::<char>(rt.alloc(), 'a', &['ß', 'c'])?);
-    assert!(rt;
-        come_behind(rt.alloc(), true, &[false, true])? && come_behind(rt.alloc(), (), &[(), ()])?
+        come_after(rt.alloc(), true, &[false, true])? && come_after(rt.alloc(), (), &[(), ()])?
     );
     Ok(())
 }

@@ -12,6 +12,8 @@ mod count;
 #[cfg(test)]
 mod errors;
 #[cfg(test)]
+mod examples;
+#[cfg(test)]
 mod rc;
 #[cfg(test)]
 mod try_clone;

@@ -28,7 +28,7 @@ fn a_list_grows_while_both_rooms_fit(rt: HostRuntime) {
     assert_eq!(rt; seen, [(64, 512, 0), (64, 512, 0), (128, 1024, 0)]);
 }
 
-// How many pairs go into a map, and whether the refused one, and each behind it, left the bytes as they were.
+// How many pairs go into a map, and whether the refused one, and each after it, left the bytes as they were.
 fn inserted(budget: &Budget<Global>) -> (usize, bool) {
     let mut map = BTreeMap::new(budget);
     let mut is_kept = true;

@@ -10,6 +10,12 @@ mod blocks;
 #[cfg(test)]
 mod collections;
 #[cfg(test)]
+mod examples;
+#[cfg(test)]
 mod inner;
 #[cfg(test)]
 mod refusals;
+#[cfg(test)]
+mod shared;
+#[cfg(test)]
+mod threads;

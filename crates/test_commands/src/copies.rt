@@ -141,7 +141,7 @@ fn an_items_own_refusal_is_the_reply(rt: HostRuntime) {
     assert!(rt; refuses_items_of(rt.alloc(), 2, TryReserveError::AllocError));
 }
 
-// Writes behind the key 0 up to the key 1, from both ends.
+// Writes after the key 0 up to the key 1, from both ends.
 fn write_from_both_ends(alloc: Global) -> Result<Command<Stubborn, Stubborn>, AllocError> {
     let mut writes = Vec::new(alloc);
     writes.push((End::Back, stubborn(8, None)))?;

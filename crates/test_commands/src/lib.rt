@@ -8,6 +8,8 @@ mod budgets;
 #[cfg(test)]
 mod copies;
 #[cfg(test)]
+mod examples;
+#[cfg(test)]
 mod lists;
 #[cfg(test)]
 mod refusals;

@@ -9,7 +9,7 @@ const SIX_LINES: &[u8] = b"insert a 37 1\ninsert a 037 2\nget a 37\nlen a\nremov
 
 const SIX_REPLIES: &[u8] = b"none\nsome 1\nsome 2\n1\nsome 2\nnone\n";
 
-/// A reader of memory in pieces of at most so many bytes, which counts how often it is read. If it is told to, it fails once behind the last, and
+/// A reader of memory in pieces of at most so many bytes, which counts how often it is read. If it is told to, it fails once after the last, and
 /// would then go on with the later bytes.
 #[derive(Drop)]
 pub(crate) struct Pieces<'a> {
@@ -156,7 +156,7 @@ fn a_writer_may_take_one_byte_a_time(rt: HostRuntime) {
     assert!(rt; answers_six(rt.alloc(), usize::MAX, 1));
 }
 
-// The part so many times, one behind the other.
+// The part so many times, one after the other.
 fn repeated(alloc: Global, part: &[u8], times: usize) -> Result<Vec<u8>, AllocError> {
     let mut text = Vec::new(alloc);
     for _ in 0..times {
@@ -165,22 +165,22 @@ fn repeated(alloc: Global, part: &[u8], times: usize) -> Result<Vec<u8>, AllocEr
     Ok(text)
 }
 
-// The end behind such a line where the reader fails there.
-fn end_behind(alloc: Global, text: &[u8]) -> Result<ServeEnd, ServeError> {
+// The end after such a line where the reader fails there.
+fn end_after(alloc: Global, text: &[u8]) -> Result<ServeEnd, ServeError> {
     let mut src = in_pieces(text, usize::MAX);
     src.failure = Some(ErrorKind::Interrupted);
     served(alloc, &mut src, &mut wide(Vec::new(alloc)))
 }
 
-// The failure of the reader shows that the line was still open behind the 4,096th byte, and behind the 4,097th that it was not.
+// The failure of the reader shows that the line was still open after the 4,096th byte, and after the 4,097th that it was not.
 #[test]
 fn a_line_is_too_long_at_its_4097th_byte(rt: HostRuntime) -> Result<(), Fail> {
     let longest = repeated(rt.alloc(), b"x", 4096)?;
-    assert!(rt; is_read_error(&end_behind(rt.alloc(), &longest)));
+    assert!(rt; is_read_error(&end_after(rt.alloc(), &longest)));
     let too_long = repeated(rt.alloc(), b"x", 4097)?;
     assert!(rt;
         matches!(
-            end_behind(rt.alloc(), &too_long),
+            end_after(rt.alloc(), &too_long),
             Ok(ServeEnd::NotACommand(1))
         )
     );
@@ -198,7 +198,7 @@ fn a_reader_interrupted_inside_the_second_line_has_failed(rt: HostRuntime) {
 }
 
 // Whether a writer that takes these bytes and no more keeps them all, and the run ends as a failed write.
-fn fails_behind(alloc: Global, replies: &[u8], fails: bool) -> bool {
+fn fails_later(alloc: Global, replies: &[u8], fails: bool) -> bool {
     let mut src = in_pieces(SIX_LINES, usize::MAX);
     let mut out = wide(Vec::new(alloc));
     out.left = replies.len();
@@ -212,7 +212,7 @@ fn a_writer_fails_after_each_number_of_bytes(rt: HostRuntime) {
     for left in 0..SIX_REPLIES.len() {
         let replies = &SIX_REPLIES[..left];
         assert!(rt;
-            fails_behind(rt.alloc(), replies, true) && fails_behind(rt.alloc(), replies, false)
+            fails_later(rt.alloc(), replies, true) && fails_later(rt.alloc(), replies, false)
         );
     }
 }

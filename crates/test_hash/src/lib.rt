@@ -8,6 +8,8 @@ mod entries;
 #[cfg(test)]
 mod errors;
 #[cfg(test)]
+mod examples;
+#[cfg(test)]
 mod large;
 #[cfg(test)]
 mod map;

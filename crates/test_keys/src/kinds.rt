@@ -28,7 +28,7 @@ impl Nth for (u32, (u8, bool)) {
     }
 }
 
-// A byte for each sixteen numbers, and up to fifteen more behind it: most begin with the one before.
+// A byte for each sixteen numbers, and up to fifteen more after it: most begin with the one before.
 impl Nth for Vec<u8> {
     fn nth(alloc: Global, number: u64) -> Result<Self, TryReserveError> {
         let mut bytes = Vec::new(alloc);
@@ -162,8 +162,8 @@ fn walks_between<K: Nth>(
     }
     let (first, end) = (from.1, to.1);
     let mut walk = map.range((lo, hi));
-    for behind in first..end {
-        let number = end.wrapping_sub(1).wrapping_sub(behind.wrapping_sub(first));
+    for after in first..end {
+        let number = end.wrapping_sub(1).wrapping_sub(after.wrapping_sub(first));
         if !is_nth(alloc, walk.next_back(), number)? {
             return Ok(false);
         }

@@ -21,6 +21,8 @@ mod kinds;
 #[cfg(test)]
 mod loads;
 #[cfg(test)]
+mod map_examples;
+#[cfg(test)]
 mod nested;
 #[cfg(test)]
 mod operators;
@@ -32,6 +34,8 @@ mod prefixes;
 mod printing;
 #[cfg(test)]
 mod retain;
+#[cfg(test)]
+mod set_examples;
 #[cfg(test)]
 mod sizes;
 #[cfg(test)]

@@ -110,7 +110,7 @@ fn extract_if_hands_each_item_on_and_gives_up_each_node_that_it_empties(rt: Host
     }
 }
 
-// The number that is last once so many behind it are taken.
+// The number that is last once so many after it are taken.
 fn back_of(taken: u64) -> u64 {
     MANY.wrapping_sub(1).wrapping_sub(taken)
 }

@@ -39,7 +39,7 @@ fn gives_those_with_the_prefix(words: &Words) -> bool {
         && walk.next_back().is_none()
 }
 
-fn gives_none_where_the_end_is_ahead(words: &Words) -> bool {
+fn gives_none_where_the_end_is_before_the_start(words: &Words) -> bool {
     let mut walk = words.range((Bound::Included("b"), Bound::Included("app")));
     walk.next().is_none() && walk.next_back().is_none()
 }
@@ -65,7 +65,7 @@ fn writes_those_with_the_prefix(words: &mut Words) -> bool {
 fn walk_all(alloc: Global, words: &mut Words) -> Result<(bool, bool, bool), TryReserveError> {
     put_words(alloc, words)?;
     let gives_those = gives_those_with_the_prefix(words);
-    let gives_none = gives_none_where_the_end_is_ahead(words);
+    let gives_none = gives_none_where_the_end_is_before_the_start(words);
     Ok((gives_those, gives_none, writes_those_with_the_prefix(words)))
 }
 

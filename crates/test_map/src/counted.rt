@@ -52,16 +52,19 @@ fn counted_ends_come_out_in_order(rt: HostRuntime) -> Result<(), Fail> {
     Ok(())
 }
 
+// Whether the number goes in by the room's one place.
+fn takes_a_place(map: &mut Numbers) -> Result<bool, TryReserveError> {
+    let mut reservation = map.try_reserve_nodes(1)?;
+    if reservation.places() == 0 || map.len() >= reservation.pairs() {
+        return Ok(false);
+    }
+    let before = map.insert_reserved_counted(&mut reservation, 3, 30, &mut Count::new());
+    Ok(before.is_none() && reservation.places() == 0 && has(map, 3, 30) && map.len() == 4)
+}
+
 #[test]
 fn a_counted_insertion_takes_a_place_of_the_reservation(rt: HostRuntime) -> Result<(), Fail> {
     let mut map = multiples(rt.alloc(), 0, 3, 1)?;
-    let mut reservation = map.try_reserve_nodes(1)?;
-    if reservation.places() == 0 || map.len() >= reservation.pairs() {
-        return Ok(());
-    }
-    let before = map.insert_reserved_counted(&mut reservation, 3, 30, &mut Count::new());
-    assert!(rt;
-        before.is_none() && reservation.places() == 0 && has(&map, 3, 30) && map.len() == 4
-    );
+    assert!(rt; takes_a_place(&mut map)?);
     Ok(())
 }

@@ -96,16 +96,20 @@ fn entries_at_both_ends_are_shown_written_and_taken(rt: HostRuntime) -> Result<(
 }
 
 // Without any memory the ends of a map are written and taken.
+fn are_taken_without_memory(alloc: Global, map: &mut Numbers) -> Result<bool, TryReserveError> {
+    let held = take_all_memory(alloc)?;
+    let is_right = !is_ample(alloc)
+        && write_ends(map, 0, 897)
+        && taken_up_to(map, 199) == 200
+        && taken_down_to(map, 200) == 100;
+    drop(held);
+    Ok(is_right)
+}
+
 #[test]
 fn entries_at_the_ends_take_no_memory_not_in_a_trial(rt: HostRuntime) -> Result<(), Fail> {
     let mut map = multiples(rt.alloc(), 0, 300, 3)?;
-    let held = take_all_memory(rt.alloc())?;
-    let is_right = !is_ample(rt.alloc())
-        && write_ends(&mut map, 0, 897)
-        && taken_up_to(&mut map, 199) == 200
-        && taken_down_to(&mut map, 200) == 100;
-    drop(held);
-    assert!(rt; is_right && map.is_empty());
+    assert!(rt; are_taken_without_memory(rt.alloc(), &mut map)? && map.is_empty());
     Ok(())
 }
 

@@ -2,12 +2,13 @@
 use crate::map::{
     Drops, Tracked, fresh_drops, pair, room_for, take_all_memory, were_all_dropped, were_dropped,
 };
-use crate::numbers::{Numbers, has, has_up_to, multiples};
+use crate::numbers::{Numbers, has, has_up_to, put_multiples};
 use crate::sizes::{BEYOND, CAPACITY};
 use fc_base::TryReserveError;
 use fc_map::map::BTreeMap;
 use fc_vec::TryFromIterator;
 use std::alloc::{AllocError, Global};
+use std::process::Abort;
 use std::test::Fail;
 use test_values::{Tally, Token, is_ample};
 
@@ -58,19 +59,24 @@ fn is_told(done: Result<(), TryReserveError>, len: usize) -> bool {
     }
 }
 
+fn keeps_the_items_before(rt: &impl Abort, alloc: Global, map: &mut Numbers) {
+    if put_multiples(map, 0, 85, 3).is_err() {
+        assert!(rt; !is_ample(alloc));
+        return;
+    }
+    let Ok(items) = pairs(alloc, 170, 37) else {
+        assert!(rt; !is_ample(alloc));
+        return;
+    };
+    let done = extend(map, items);
+    assert!(rt; is_told(done, map.len()) && is_extended_by_a_front(map));
+}
+
 // Each request is refused in turn by the sweep. The extension makes a third level.
 #[test]
 fn a_refused_extension_keeps_the_items_before(rt: HostRuntime) {
-    let Ok(mut map) = multiples(rt.alloc(), 0, 85, 3) else {
-        assert!(rt; !is_ample(rt.alloc()));
-        return;
-    };
-    let Ok(items) = pairs(rt.alloc(), 170, 37) else {
-        assert!(rt; !is_ample(rt.alloc()));
-        return;
-    };
-    let done = extend(&mut map, items);
-    assert!(rt; is_told(done, map.len()) && is_extended_by_a_front(&map));
+    let mut map = Numbers::new(rt.alloc());
+    keeps_the_items_before(&rt, rt.alloc(), &mut map);
 }
 
 // A pair for each that counts drops, of the numbers below 170, 37 apart and round.
@@ -85,7 +91,7 @@ pub(crate) fn tracked_pairs(
     Ok(all)
 }
 
-// Whether the map has as many of the tracked pairs as its length says, those in front, and the others were dropped once. The keys
+// Whether the map has as many of the tracked pairs as its length says, those before, and the others were dropped once. The keys
 // that it is asked for count their drops in `sought`.
 fn has_the_front<'a>(map: &Tracked<'a>, drops: &[Drops], sought: &'a Tally) -> bool {
     for place in 0..drops.len() {
@@ -106,6 +112,34 @@ fn extend_tracked<'a>(
     map.try_extend(items)
 }
 
+// Extends the map, which keeps the items before; whether there was memory for the items.
+fn is_extended<'a>(
+    rt: &impl Abort,
+    alloc: Global,
+    map: &mut Tracked<'a>,
+    drops: &'a [Drops],
+    sought: &'a Tally,
+) -> bool {
+    let Ok(items) = tracked_pairs(alloc, drops) else {
+        assert!(rt; !is_ample(alloc));
+        return false;
+    };
+    let done = extend_tracked(map, items);
+    assert!(rt; is_told(done, map.len()) && has_the_front(map, drops, sought));
+    true
+}
+
+// Of a map that is then dropped.
+fn is_extended_and_dropped(
+    rt: &impl Abort,
+    alloc: Global,
+    drops: &[Drops],
+    sought: &Tally,
+) -> bool {
+    let mut map = BTreeMap::new(alloc);
+    is_extended(rt, alloc, &mut map, drops, sought)
+}
+
 // Each request is refused in turn by the sweep.
 #[test]
 fn each_item_of_an_extension_is_dropped_once(rt: HostRuntime) {
@@ -114,16 +148,9 @@ fn each_item_of_an_extension_is_dropped_once(rt: HostRuntime) {
         assert!(rt; !is_ample(rt.alloc()));
         return;
     };
-    {
-        let Ok(items) = tracked_pairs(rt.alloc(), &drops) else {
-            assert!(rt; !is_ample(rt.alloc()));
-            return;
-        };
-        let mut map = BTreeMap::new(rt.alloc());
-        let done = extend_tracked(&mut map, items);
-        assert!(rt; is_told(done, map.len()) && has_the_front(&map, &drops, &sought));
+    if is_extended_and_dropped(&rt, rt.alloc(), &drops, &sought) {
+        assert!(rt; were_all_dropped(&drops, 1));
     }
-    assert!(rt; were_all_dropped(&drops, 1));
 }
 
 pub(crate) fn tracked_map<'a>(
@@ -145,6 +172,17 @@ fn is_made<'a>(
     }
 }
 
+// Makes a map and drops it; whether there was memory for the items.
+fn is_made_and_dropped(rt: &impl Abort, alloc: Global, drops: &[Drops], sought: &Tally) -> bool {
+    let Ok(items) = tracked_pairs(alloc, drops) else {
+        assert!(rt; !is_ample(alloc));
+        return false;
+    };
+    let made = tracked_map(alloc, items);
+    assert!(rt; is_made(&made, drops, sought));
+    true
+}
+
 // Each request is refused in turn by the sweep.
 #[test]
 fn each_item_of_a_made_map_is_dropped_once(rt: HostRuntime) {
@@ -153,14 +191,9 @@ fn each_item_of_a_made_map_is_dropped_once(rt: HostRuntime) {
         assert!(rt; !is_ample(rt.alloc()));
         return;
     };
-    {
-        let Ok(items) = tracked_pairs(rt.alloc(), &drops) else {
-            assert!(rt; !is_ample(rt.alloc()));
-            return;
-        };
-        assert!(rt; is_made(&tracked_map(rt.alloc(), items), &drops, &sought));
+    if is_made_and_dropped(&rt, rt.alloc(), &drops, &sought) {
+        assert!(rt; were_all_dropped(&drops, 1));
     }
-    assert!(rt; were_all_dropped(&drops, 1));
 }
 
 // Whether the map has the first numbers that fill a leaf, each with itself, and nothing else.
@@ -173,23 +206,43 @@ fn has_a_full_leaf(map: &Numbers) -> bool {
     map.len() == CAPACITY
 }
 
-// There is memory for one leaf alone: that of a map that was dropped. The clause allows an empty map too, where a first item may be
+// Whether the map is refused an extension where there is no memory but that of the spare one, which is cleared.
+fn is_refused_beside(
+    alloc: Global,
+    map: &mut Numbers,
+    spare: &mut Numbers,
+    items: Vec<(u64, u64)>,
+) -> Result<bool, TryReserveError> {
+    let held = take_all_memory(alloc)?;
+    let has_none = !is_ample(alloc);
+    spare.clear();
+    let done = extend(map, items);
+    drop(held);
+    Ok(has_none && matches!(done, Err(TryReserveError::AllocError)))
+}
+
+fn keeps_a_leaf(
+    rt: &impl Abort,
+    alloc: Global,
+    map: &mut Numbers,
+    spare: &mut Numbers,
+) -> Result<(), Fail> {
+    put_multiples(spare, 0, 1, 1)?;
+    let items = pairs(alloc, 30, 1)?;
+    assert!(rt; is_refused_beside(alloc, map, spare, items)?);
+    assert!(rt; has_a_full_leaf(map));
+    Ok(())
+}
+
+// There is memory for one leaf alone: that of a map that was cleared. The clause allows an empty map too, where a first item may be
 // refused. A run that gets its memory from elsewhere, as one without proof does, would show nothing, and fails.
 #[test]
 fn a_refused_extension_of_an_empty_map_keeps_a_leaf_not_in_a_trial(
     rt: HostRuntime,
 ) -> Result<(), Fail> {
-    let spare = multiples(rt.alloc(), 0, 1, 1)?;
-    let items = pairs(rt.alloc(), 30, 1)?;
-    let mut map = BTreeMap::new(rt.alloc());
-    let held = take_all_memory(rt.alloc())?;
-    let has_none = !is_ample(rt.alloc());
-    drop(spare);
-    let done = extend(&mut map, items);
-    drop(held);
-    assert!(rt; has_none && matches!(done, Err(TryReserveError::AllocError)));
-    assert!(rt; has_a_full_leaf(&map));
-    Ok(())
+    let mut map = Numbers::new(rt.alloc());
+    let mut spare = Numbers::new(rt.alloc());
+    keeps_a_leaf(&rt, rt.alloc(), &mut map, &mut spare)
 }
 
 // The three numbers from that which fills a leaf on, each with itself.
@@ -201,17 +254,24 @@ fn three_pairs(alloc: Global) -> Result<Vec<(u64, u64)>, AllocError> {
     Ok(all)
 }
 
-// The leaf has room for one pair, so the first of three goes in and the second, which is the first to take memory, is refused. A run that
+fn fills_the_leaf(
+    rt: &impl Abort,
+    alloc: Global,
+    map: &mut Numbers,
+    spare: &mut Numbers,
+) -> Result<(), Fail> {
+    put_multiples(map, 1, CAPACITY as u64, 1)?;
+    let items = three_pairs(alloc)?;
+    assert!(rt; is_refused_beside(alloc, map, spare, items)?);
+    assert!(rt; has_up_to(map, CAPACITY as u64));
+    Ok(())
+}
+
+// The leaf has room for one pair, so the first of three goes in and the second, which is the first to take memory, is refused; the spare map has none. A run that
 // gets its memory from elsewhere, as one without proof does, would show nothing, and fails.
 #[test]
 fn a_refused_extension_fills_the_leaf_not_in_a_trial(rt: HostRuntime) -> Result<(), Fail> {
-    let mut map = multiples(rt.alloc(), 1, CAPACITY as u64, 1)?;
-    let items = three_pairs(rt.alloc())?;
-    let held = take_all_memory(rt.alloc())?;
-    let has_none = !is_ample(rt.alloc());
-    let done = extend(&mut map, items);
-    drop(held);
-    assert!(rt; has_none && matches!(done, Err(TryReserveError::AllocError)));
-    assert!(rt; has_up_to(&map, CAPACITY as u64));
-    Ok(())
+    let mut map = Numbers::new(rt.alloc());
+    let mut spare = Numbers::new(rt.alloc());
+    fills_the_leaf(&rt, rt.alloc(), &mut map, &mut spare)
 }

@@ -1,6 +1,6 @@
 //! Walks in loops and through adapters.
 use crate::numbers::{Numbers, multiples};
-use fc_map::map::{Keys, Values};
+use fc_map::map::{Iter, Keys, Values};
 use std::alloc::{AllocError, Global};
 use std::test::Fail;
 
@@ -56,15 +56,32 @@ fn are_collected(alloc: Global, map: &Numbers) -> Result<bool, AllocError> {
     Ok(are_keys_and_values(&keys, &values))
 }
 
+fn gives_keys(
+    alloc: Global,
+    pairs: Iter<'_, u64, u64>,
+    wanted: &[u64],
+) -> Result<bool, AllocError> {
+    let keys: Vec<u64> = Keys::of(pairs).copied().collect(alloc)?;
+    Ok(keys.as_slice() == wanted)
+}
+
+fn gives_values(
+    alloc: Global,
+    pairs: Iter<'_, u64, u64>,
+    wanted: &[u64],
+) -> Result<bool, AllocError> {
+    let values: Vec<u64> = Values::of(pairs).copied().collect(alloc)?;
+    Ok(values.as_slice() == wanted)
+}
+
 // Walks over keys and over values that are made of one over the pairs give what is left of it, and leave it as it is.
 #[test]
 fn keys_and_values_of_a_walk(rt: HostRuntime) -> Result<(), Fail> {
     let map = multiples(rt.alloc(), 1, 4, 10)?;
     let mut pairs = map.iter();
     assert!(rt; pairs.next().is_some());
-    let keys: Vec<u64> = Keys::of(pairs.clone()?).copied().collect(rt.alloc())?;
-    let values: Vec<u64> = Values::of(pairs).copied().collect(rt.alloc())?;
-    assert!(rt; keys.as_slice() == [2, 3].as_slice() && values.as_slice() == [20, 30].as_slice());
+    let are_keys = gives_keys(rt.alloc(), pairs.clone()?, &[2, 3])?;
+    assert!(rt; are_keys && gives_values(rt.alloc(), pairs, &[20, 30])?);
     Ok(())
 }
 

@@ -1,10 +1,11 @@
 //! Maps that are made of many items in no order, or extended by a vector of them, where memory is refused.
 use crate::extend::{tracked_map, tracked_pairs};
-use crate::map::{Tracked, fresh_drops, were_all_dropped};
-use crate::numbers::{Numbers, has, multiples};
+use crate::map::{Drops, Tracked, fresh_drops, were_all_dropped};
+use crate::numbers::{Numbers, has, put_multiples};
 use fc_base::TryReserveError;
 use fc_vec::TryFromIterator;
 use std::alloc::{AllocError, Global};
+use std::process::Abort;
 use test_values::is_ample;
 
 // So many items, of each number two.
@@ -59,27 +60,32 @@ fn has_multiples(map: &Numbers, count: u64) -> bool {
     map.len() as u64 == count
 }
 
-// Each request is refused in turn by the sweep.
-#[test]
-fn a_refused_vector_comes_back_and_leaves_the_map(rt: HostRuntime) {
-    let Ok(mut map) = multiples(rt.alloc(), 0, 85, 3) else {
-        assert!(rt; !is_ample(rt.alloc()));
+fn takes_all_or_none(rt: &impl Abort, alloc: Global, map: &mut Numbers) {
+    if put_multiples(map, 0, 85, 3).is_err() {
+        assert!(rt; !is_ample(alloc));
         return;
-    };
-    let Ok(items) = items(rt.alloc()) else {
-        assert!(rt; !is_ample(rt.alloc()));
+    }
+    let Ok(items) = items(alloc) else {
+        assert!(rt; !is_ample(alloc));
         return;
     };
     let is_right = match map.try_extend_from_vec(items) {
-        Ok(()) => has_all(&map),
+        Ok(()) => has_all(map),
         Err((items, TryReserveError::AllocError)) => are_all(items.as_slice())
-            && has_multiples(&map, 85),
+            && has_multiples(map, 85),
         Err(_other) => false,
     };
     assert!(rt; is_right);
 }
 
-// A number that is there, and two behind it, each with its threefold. Room that is refused is asked for once more.
+// Each request is refused in turn by the sweep.
+#[test]
+fn a_refused_vector_comes_back_and_leaves_the_map(rt: HostRuntime) {
+    let mut map = Numbers::new(rt.alloc());
+    takes_all_or_none(&rt, rt.alloc(), &mut map);
+}
+
+// A number that is there, and two after it, each with its threefold. Room that is refused is asked for once more.
 fn few(alloc: Global) -> Result<Vec<(u64, u64)>, AllocError> {
     let mut items = match Vec::with_capacity(alloc, 3) {
         Ok(room) => room,
@@ -91,23 +97,28 @@ fn few(alloc: Global) -> Result<Vec<(u64, u64)>, AllocError> {
     Ok(items)
 }
 
-// Each request is refused in turn by the sweep. Three items go into a map of 260 by nodes that are reserved.
-#[test]
-fn a_refused_vector_of_few_items_comes_back_and_leaves_the_map(rt: HostRuntime) {
-    let Ok(mut map) = multiples(rt.alloc(), 0, 260, 3) else {
-        assert!(rt; !is_ample(rt.alloc()));
+fn takes_few_or_none(rt: &impl Abort, alloc: Global, map: &mut Numbers) {
+    if put_multiples(map, 0, 260, 3).is_err() {
+        assert!(rt; !is_ample(alloc));
         return;
-    };
-    let Ok(items) = few(rt.alloc()) else {
-        assert!(rt; !is_ample(rt.alloc()));
+    }
+    let Ok(items) = few(alloc) else {
+        assert!(rt; !is_ample(alloc));
         return;
     };
     let is_right = match map.try_extend_from_vec(items) {
-        Ok(()) => has_multiples(&map, 262),
-        Err((items, TryReserveError::AllocError)) => items.len() == 3 && has_multiples(&map, 260),
+        Ok(()) => has_multiples(map, 262),
+        Err((items, TryReserveError::AllocError)) => items.len() == 3 && has_multiples(map, 260),
         Err(_other) => false,
     };
     assert!(rt; is_right);
+}
+
+// Each request is refused in turn by the sweep. Three items go into a map of 260 by nodes that are reserved.
+#[test]
+fn a_refused_vector_of_few_items_comes_back_and_leaves_the_map(rt: HostRuntime) {
+    let mut map = Numbers::new(rt.alloc());
+    takes_few_or_none(&rt, rt.alloc(), &mut map);
 }
 
 // So many items come in descending order.
@@ -142,6 +153,17 @@ fn is_made(made: &Result<Tracked<'_>, TryReserveError>) -> bool {
     }
 }
 
+// Makes a map and drops it; whether there was memory for the items.
+fn is_loaded_and_dropped(rt: &impl Abort, alloc: Global, drops: &[Drops]) -> bool {
+    let Ok(items) = tracked_pairs(alloc, drops) else {
+        assert!(rt; !is_ample(alloc));
+        return false;
+    };
+    let made = tracked_map(alloc, items);
+    assert!(rt; is_made(&made));
+    true
+}
+
 // Each request is refused in turn by the sweep. Most items have keys that are there.
 #[test]
 fn each_item_of_a_load_is_dropped_once(rt: HostRuntime) {
@@ -149,12 +171,7 @@ fn each_item_of_a_load_is_dropped_once(rt: HostRuntime) {
         assert!(rt; !is_ample(rt.alloc()));
         return;
     };
-    {
-        let Ok(items) = tracked_pairs(rt.alloc(), &drops) else {
-            assert!(rt; !is_ample(rt.alloc()));
-            return;
-        };
-        assert!(rt; is_made(&tracked_map(rt.alloc(), items)));
+    if is_loaded_and_dropped(&rt, rt.alloc(), &drops) {
+        assert!(rt; were_all_dropped(&drops, 1));
     }
-    assert!(rt; were_all_dropped(&drops, 1));
 }

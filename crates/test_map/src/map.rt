@@ -3,12 +3,13 @@ pub(crate) mod entries;
 mod given;
 mod handed_back;
 
-use crate::numbers::{Numbers, has_up_to, insert, is_lent, multiples};
+use crate::numbers::{Numbers, has_up_to, insert, is_lent, put_multiples};
 use crate::sizes::{BEYOND, CAPACITY};
 use fc_base::TryReserveError;
 use fc_map::map::BTreeMap;
 use std::alloc::{AllocError, Global};
 use std::cmp::Reverse;
+use std::process::Abort;
 use std::test::Fail;
 use test_values::{Tally, Token, is_ample};
 
@@ -88,17 +89,31 @@ fn only_a_full_leaf_refuses(small: &mut Numbers, large: &mut Numbers) -> bool {
         && matches!(insert(large, 0, 0), Ok(None))
 }
 
+fn refuses_without_memory(
+    alloc: Global,
+    small: &mut Numbers,
+    large: &mut Numbers,
+) -> Result<bool, TryReserveError> {
+    put_multiples(small, 1, CAPACITY as u64, 1)?;
+    put_multiples(large, 1, 151, 1)?;
+    let held = take_all_memory(alloc)?;
+    let is_right = !is_ample(alloc) && only_a_full_leaf_refuses(small, large);
+    drop(held);
+    Ok(is_right && has_up_to(small, CAPACITY as u64) && large.len() == 151)
+}
+
+fn is_refused_a_leaf(alloc: Global) -> Result<bool, TryReserveError> {
+    let mut small = Numbers::new(alloc);
+    let mut large = Numbers::new(alloc);
+    refuses_without_memory(alloc, &mut small, &mut large)
+}
+
 // A run that gets its memory from elsewhere, as one without proof does, would show nothing, and fails.
 #[test]
 fn with_all_memory_refused_only_a_full_leaf_refuses_not_in_a_trial(
     rt: HostRuntime,
 ) -> Result<(), Fail> {
-    let mut small = multiples(rt.alloc(), 1, CAPACITY as u64, 1)?;
-    let mut large = multiples(rt.alloc(), 1, 151, 1)?;
-    let held = take_all_memory(rt.alloc())?;
-    let is_right = !is_ample(rt.alloc()) && only_a_full_leaf_refuses(&mut small, &mut large);
-    drop(held);
-    assert!(rt; is_right && has_up_to(&small, CAPACITY as u64) && large.len() == 151);
+    assert!(rt; is_refused_a_leaf(rt.alloc())?);
     Ok(())
 }
 
@@ -235,6 +250,22 @@ fn drops_even_ones<'a>(map: &mut Tracked<'a>, drops: &[Drops], sought: &'a Tally
     true
 }
 
+fn keeps_and_takes_out<'a>(
+    rt: &impl Abort,
+    map: &mut Tracked<'a>,
+    drops: &'a [Drops],
+    sought: &'a Tally,
+) {
+    assert!(rt; keeps_or_hands_back_each(map, drops));
+    assert!(rt; drops_even_ones(map, drops, sought));
+}
+
+// By a map that is then dropped.
+fn keeps_takes_out_and_drops(rt: &impl Abort, alloc: Global, drops: &[Drops], sought: &Tally) {
+    let mut map = BTreeMap::new(alloc);
+    keeps_and_takes_out(rt, &mut map, drops, sought);
+}
+
 // Each request is refused in turn by the sweep. Each key and value is in the map, of three levels, or came back, once.
 #[test]
 fn each_key_and_value_is_dropped_once(rt: HostRuntime) {
@@ -243,10 +274,6 @@ fn each_key_and_value_is_dropped_once(rt: HostRuntime) {
         return;
     };
     let sought = Tally::new();
-    {
-        let mut map = BTreeMap::new(rt.alloc());
-        assert!(rt; keeps_or_hands_back_each(&mut map, &drops));
-        assert!(rt; drops_even_ones(&mut map, &drops, &sought));
-    }
+    keeps_takes_out_and_drops(&rt, rt.alloc(), &drops, &sought);
     assert!(rt; were_all_dropped(&drops, 1));
 }

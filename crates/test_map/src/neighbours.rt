@@ -1,4 +1,4 @@
-//! The pairs next to a key, against numbers: for each key from below the first to beyond the last.
+//! The pairs next to a key, against numbers: for each key from below the first to after the last.
 use fc_base::{Count, TryReserveError};
 use fc_map::map::BTreeMap;
 use std::alloc::Global;
@@ -56,7 +56,7 @@ fn are_next(map: &BTreeMap<u64, u64>, key: u64, n: u64) -> bool {
         && is_asked(map.last_before(&key), last_even(key.saturating_sub(1), n))
 }
 
-// Each key from 0 to beyond the last, in each of the four calls.
+// Each key from 0 to after the last, in each of the four calls.
 fn are_all_next(map: &BTreeMap<u64, u64>, n: u64) -> bool {
     for key in 0..n.wrapping_mul(2).wrapping_add(4) {
         if !are_next(map, key, n) {
@@ -99,7 +99,7 @@ pub(crate) fn tagged_below(
     Ok(map)
 }
 
-// Keys equal to what is sought, but not the same: those of the map are answered, and an equal one is not passed over or taken for one behind.
+// Keys equal to what is sought, but not the same: those of the map are answered, and an equal one is not passed over or taken for one after.
 #[test]
 fn neighbours_are_the_keys_of_the_map(rt: HostRuntime) -> Result<(), Fail> {
     let map = tagged_below(rt.alloc(), 153)?;
@@ -147,7 +147,7 @@ fn costs_a_look_up<'a>(map: &BTreeMap<CountingKey<'a>, u64>, key: &CountingKey<'
     is_first && is_second && is_third && made.get() == of_one.wrapping_mul(5)
 }
 
-// Of 151 ascending keys, the search for the last passes 15, and one beyond it no less.
+// Of 151 ascending keys, the search for the last passes 15, and one after it no less.
 #[test]
 fn neighbours_cost_a_look_up(rt: HostRuntime) -> Result<(), Fail> {
     let made = Cell::new(0);
@@ -195,7 +195,7 @@ fn sixteen_texts(alloc: Global) -> Result<BTreeMap<String, u64>, TryReserveError
     Ok(map)
 }
 
-// A text comes behind its own beginnings. Sixteen texts stand on two levels of nodes.
+// A text comes after its own beginnings. Sixteen texts stand on two levels of nodes.
 #[test]
 fn texts_are_sought_by_slices(rt: HostRuntime) -> Result<(), Fail> {
     let map = sixteen_texts(rt.alloc())?;

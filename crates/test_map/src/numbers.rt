@@ -16,8 +16,22 @@ pub(crate) fn insert(
     Ok(map.try_insert(key, value)?)
 }
 
-// The numbers from `first` on below `end`, each with itself times the factor, once more where one is refused: so that the map is refused only where there is
-// no memory.
+// Puts in the numbers from `first` on below `end`, each with itself times the factor, once more where one is refused: so that the map is refused only where
+// there is no memory.
+pub(crate) fn put_multiples(
+    map: &mut Numbers,
+    first: u64,
+    end: u64,
+    factor: u64,
+) -> Result<(), TryReserveError> {
+    for number in first..end {
+        if insert(map, number, number.wrapping_mul(factor)).is_err() {
+            insert(map, number, number.wrapping_mul(factor))?;
+        }
+    }
+    Ok(())
+}
+
 pub(crate) fn multiples(
     alloc: Global,
     first: u64,
@@ -25,11 +39,7 @@ pub(crate) fn multiples(
     factor: u64,
 ) -> Result<Numbers, TryReserveError> {
     let mut map = BTreeMap::new(alloc);
-    for number in first..end {
-        if insert(&mut map, number, number.wrapping_mul(factor)).is_err() {
-            insert(&mut map, number, number.wrapping_mul(factor))?;
-        }
-    }
+    put_multiples(&mut map, first, end, factor)?;
     Ok(map)
 }
 

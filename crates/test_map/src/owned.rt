@@ -24,7 +24,23 @@ pub(crate) fn pair(alloc: Global, number: u64) -> Result<(Owned, Owned), TryRese
     Ok((key, value))
 }
 
-// The numbers from `first` on below `end`, each so many on, with themselves.
+// Puts in the numbers from `first` on below `end`, each so many on, with themselves.
+pub(crate) fn put_owners(
+    alloc: Global,
+    map: &mut Owners,
+    first: u64,
+    end: u64,
+    step: u64,
+) -> Result<(), TryReserveError> {
+    for number in first..end {
+        if step > 0 && (number - first) % step == 0 {
+            let (key, value) = pair(alloc, number)?;
+            map.try_insert(key, value)?;
+        }
+    }
+    Ok(())
+}
+
 pub(crate) fn owners(
     alloc: Global,
     first: u64,
@@ -32,12 +48,7 @@ pub(crate) fn owners(
     step: u64,
 ) -> Result<Owners, TryReserveError> {
     let mut map = BTreeMap::new(alloc);
-    for number in first..end {
-        if step > 0 && (number - first) % step == 0 {
-            let (key, value) = pair(alloc, number)?;
-            map.try_insert(key, value)?;
-        }
-    }
+    put_owners(alloc, &mut map, first, end, step)?;
     Ok(map)
 }
 

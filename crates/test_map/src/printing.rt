@@ -1,22 +1,25 @@
 //! The texts of writing and owned walks and of insertions made ready by `{:?}`: what is still to come, and it stays where it is.
 use crate::numbers::{Numbers, multiples};
 use fc_base::TryReserveError;
-use fc_map::map::{Entry, IterMut, RangeMut};
+use fc_map::map::Entry;
 use std::alloc::{AllocError, Global};
+use std::fmt::Debug;
 use std::ops::Bound;
 use std::test::Fail;
 
-fn printed(alloc: Global, walk: &IterMut<'_, u64, u64>) -> Result<String, AllocError> {
-    format!(in alloc; "{walk:?}")
+fn prints<D: Debug>(alloc: Global, shown: &D, wanted: &str) -> Result<bool, AllocError> {
+    let text = format!(in alloc; "{shown:?}")?;
+    Ok(text.as_str() == wanted)
 }
 
-// The text of a walk that lent as many values from the front and from the back.
-fn text_of_rest(
+// Whether a walk that lent as many values from the front and from the back has this text.
+fn prints_rest(
     alloc: Global,
     map: &mut Numbers,
     front: usize,
     back: usize,
-) -> Result<String, AllocError> {
+    wanted: &str,
+) -> Result<bool, AllocError> {
     let mut walk = map.iter_mut();
     for _ in 0..front {
         walk.next();
@@ -24,20 +27,24 @@ fn text_of_rest(
     for _ in 0..back {
         walk.next_back();
     }
-    printed(alloc, &walk)
+    prints(alloc, &walk, wanted)
 }
 
 #[test]
 fn a_writing_walk_prints_the_pairs_that_are_left(rt: HostRuntime) -> Result<(), Fail> {
     let mut map = multiples(rt.alloc(), 1, 5, 10)?;
-    let whole = text_of_rest(rt.alloc(), &mut map, 0, 0)?;
-    assert!(rt; whole.as_str() == "[(1, 10), (2, 20), (3, 30), (4, 40)]");
-    let middle = text_of_rest(rt.alloc(), &mut map, 1, 1)?;
-    assert!(rt; middle.as_str() == "[(2, 20), (3, 30)]");
-    let one = text_of_rest(rt.alloc(), &mut map, 0, 3)?;
-    assert!(rt; one.as_str() == "[(1, 10)]");
-    let none = text_of_rest(rt.alloc(), &mut map, 2, 2)?;
-    assert!(rt; none.as_str() == "[]");
+    assert!(rt;
+        prints_rest(
+            rt.alloc(),
+            &mut map,
+            0,
+            0,
+            "[(1, 10), (2, 20), (3, 30), (4, 40)]"
+        )?
+    );
+    assert!(rt; prints_rest(rt.alloc(), &mut map, 1, 1, "[(2, 20), (3, 30)]")?);
+    assert!(rt; prints_rest(rt.alloc(), &mut map, 0, 3, "[(1, 10)]")?);
+    assert!(rt; prints_rest(rt.alloc(), &mut map, 2, 2, "[]")?);
     Ok(())
 }
 
@@ -45,40 +52,47 @@ fn a_writing_walk_prints_the_pairs_that_are_left(rt: HostRuntime) -> Result<(), 
 #[test]
 fn a_writing_walk_of_a_large_map_prints_its_middle(rt: HostRuntime) -> Result<(), Fail> {
     let mut map = multiples(rt.alloc(), 0, 300, 1)?;
-    let middle = text_of_rest(rt.alloc(), &mut map, 150, 148)?;
-    assert!(rt; middle.as_str() == "[(150, 150), (151, 151)]");
+    assert!(rt; prints_rest(rt.alloc(), &mut map, 150, 148, "[(150, 150), (151, 151)]")?);
     Ok(())
 }
 
-fn printed_range(alloc: Global, walk: &RangeMut<'_, u64, u64>) -> Result<String, AllocError> {
-    format!(in alloc; "{walk:?}")
+// Whether a range is printed whole; and the rest of it, and where none is left.
+fn range_is_printed(alloc: Global, map: &mut Numbers) -> Result<(bool, bool), AllocError> {
+    let mut walk = map.range_mut((Bound::Included(&17), Bound::Excluded(&20)));
+    let whole = prints(alloc, &walk, "[(17, 170), (18, 180), (19, 190)]")?;
+    walk.next();
+    let rest = prints(alloc, &walk, "[(18, 180), (19, 190)]")?;
+    walk.next_back();
+    walk.next_back();
+    let none = prints(alloc, &walk, "[]")?;
+    Ok((whole, rest && none))
 }
 
 #[test]
 fn a_writing_walk_over_a_range_prints_the_pairs_that_are_left(rt: HostRuntime) -> Result<(), Fail> {
     let mut map = multiples(rt.alloc(), 1, 100, 10)?;
-    let mut walk = map.range_mut((Bound::Included(&17), Bound::Excluded(&20)));
-    let whole = printed_range(rt.alloc(), &walk)?;
-    walk.next();
-    let rest = printed_range(rt.alloc(), &walk)?;
-    walk.next_back();
-    walk.next_back();
-    let none = printed_range(rt.alloc(), &walk)?;
-    assert!(rt; whole.as_str() == "[(17, 170), (18, 180), (19, 190)]");
-    assert!(rt; rest.as_str() == "[(18, 180), (19, 190)]" && none.as_str() == "[]");
+    let (whole, rest) = range_is_printed(rt.alloc(), &mut map)?;
+    assert!(rt; whole);
+    assert!(rt; rest);
     Ok(())
+}
+
+fn keys_are_printed(alloc: Global, map: Numbers) -> Result<bool, AllocError> {
+    let mut keys = map.into_keys();
+    keys.next();
+    prints(alloc, &keys, "IntoKeys { pairs: [(2, 20), (3, 30)] }")
+}
+
+fn values_are_printed(alloc: Global, map: Numbers) -> Result<bool, AllocError> {
+    let mut values = map.into_values();
+    values.next_back();
+    prints(alloc, &values, "IntoValues { pairs: [(1, 10), (2, 20)] }")
 }
 
 #[test]
 fn owned_walks_print_the_pairs_that_are_left(rt: HostRuntime) -> Result<(), Fail> {
-    let mut keys = multiples(rt.alloc(), 1, 4, 10)?.into_keys();
-    keys.next();
-    let keys = format!(in rt.alloc(); "{keys:?}")?;
-    assert!(rt; keys.as_str() == "IntoKeys { pairs: [(2, 20), (3, 30)] }");
-    let mut values = multiples(rt.alloc(), 1, 4, 10)?.into_values();
-    values.next_back();
-    let values = format!(in rt.alloc(); "{values:?}")?;
-    assert!(rt; values.as_str() == "IntoValues { pairs: [(1, 10), (2, 20)] }");
+    assert!(rt; keys_are_printed(rt.alloc(), multiples(rt.alloc(), 1, 4, 10)?)?);
+    assert!(rt; values_are_printed(rt.alloc(), multiples(rt.alloc(), 1, 4, 10)?)?);
     Ok(())
 }
 

@@ -32,7 +32,7 @@ fn finds_each(map: &BTreeMap<String, u64>) -> bool {
     true
 }
 
-// Whether nothing is found at texts that are between those of the map, beyond them, or longer.
+// Whether nothing is found at texts that are between those of the map, after them, or longer.
 fn finds_no_other(map: &BTreeMap<String, u64>) -> bool {
     for text in ["abcd", "aa", "words", "wa", "A", "zz", "\u{ff}"] {
         if map.contains_key(text) || map.get(text).is_some() {
@@ -79,19 +79,26 @@ fn a_text_is_written_at_and_removed(rt: HostRuntime) -> Result<(), Fail> {
     Ok(())
 }
 
+fn is_found_without_memory(
+    alloc: Global,
+    map: &mut BTreeMap<String, u64>,
+) -> Result<bool, TryReserveError> {
+    let held = take_all_memory(alloc)?;
+    let is_right = !is_ample(alloc)
+        && String::from_str(alloc, "word").is_err()
+        && finds_each(map)
+        && finds_no_other(map)
+        && write_text(map, "word", 70)
+        && takes_out(map, "word", 70);
+    drop(held);
+    Ok(is_right)
+}
+
 // A run that gets its memory from elsewhere, as one without proof does, would show nothing, and fails.
 #[test]
 fn with_all_memory_refused_a_text_is_found_not_in_a_trial(rt: HostRuntime) -> Result<(), Fail> {
     let mut map = words(rt.alloc())?;
-    let held = take_all_memory(rt.alloc())?;
-    let is_right = !is_ample(rt.alloc())
-        && String::from_str(rt.alloc(), "word").is_err()
-        && finds_each(&map)
-        && finds_no_other(&map)
-        && write_text(&mut map, "word", 70)
-        && takes_out(&mut map, "word", 70);
-    drop(held);
-    assert!(rt; is_right);
+    assert!(rt; is_found_without_memory(rt.alloc(), &mut map)?);
     Ok(())
 }
 
@@ -154,10 +161,13 @@ fn pairs(alloc: Global) -> Result<BTreeMap<(u32, u32), u64>, TryReserveError> {
     Ok(map)
 }
 
+fn finds_by_pair(by_pair: &BTreeMap<(u32, u32), u64>) -> bool {
+    is_lent(by_pair.get(&(3, 5)), 29) && by_pair.get(&(3, 8)).is_none()
+}
+
 #[test]
 fn keys_of_several_parts_are_found_by_a_reference(rt: HostRuntime) -> Result<(), Fail> {
-    let by_pair = pairs(rt.alloc())?;
-    assert!(rt; is_lent(by_pair.get(&(3, 5)), 29) && by_pair.get(&(3, 8)).is_none());
+    assert!(rt; finds_by_pair(&pairs(rt.alloc())?));
     let by_date = dates(rt.alloc())?;
     assert!(rt; is_lent(by_date.get(&Date { year: 3, day: 5 }), 29));
     assert!(rt; !by_date.contains_key(&Date { year: 5, day: 0 }));

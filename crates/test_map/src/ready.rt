@@ -1,10 +1,11 @@
 //! Insertions that are made ready, and pairs put into two maps: on maps of one to three levels, under refused memory, and without any.
 use crate::map::take_all_memory;
-use crate::numbers::{Numbers, has, has_up_to, is_number, multiples};
+use crate::numbers::{Numbers, has, has_up_to, is_number, multiples, put_multiples};
 use crate::sizes::{BEYOND, CAPACITY};
 use fc_base::{Count, TryReserveError};
 use fc_map::map::{Entry, insert_both};
 use std::alloc::Global;
+use std::process::Abort;
 use std::test::Fail;
 use test_values::is_ample;
 
@@ -108,17 +109,35 @@ fn replaces_first(
     }
 }
 
+// Maps of the numbers below the first and below the second, which go in, and then the first once more and 0.
+fn are_put_in(
+    rt: &impl Abort,
+    a: &mut Numbers,
+    b: &mut Numbers,
+    first: u64,
+    second: u64,
+) -> Result<(), Fail> {
+    put_multiples(a, 1, first, 1)?;
+    put_multiples(b, 1, second, 1)?;
+    assert!(rt; puts_both(a, b, first, second)?);
+    assert!(rt; has_up_to(a, first) && has_up_to(b, second));
+    assert!(rt; replaces_first(a, b, first, 0)?);
+    assert!(rt; has(a, first, 200) && has(b, 0, 0));
+    assert!(rt; a.len() as u64 == first && b.len() as u64 == second.wrapping_add(1));
+    Ok(())
+}
+
+fn go_into_two_maps(rt: &impl Abort, alloc: Global, first: u64, second: u64) -> Result<(), Fail> {
+    let mut a = Numbers::new(alloc);
+    let mut b = Numbers::new(alloc);
+    are_put_in(rt, &mut a, &mut b, first, second)
+}
+
 #[test]
 fn two_pairs_are_put_into_maps_of_each_length(rt: HostRuntime) -> Result<(), Fail> {
-    for first in 0..40u64 {
-        for second in 0..40u64 {
-            let mut a = multiples(rt.alloc(), 1, first + 1, 1)?;
-            let mut b = multiples(rt.alloc(), 1, second + 1, 1)?;
-            assert!(rt; puts_both(&mut a, &mut b, first + 1, second + 1)?);
-            assert!(rt; has_up_to(&a, first + 1) && has_up_to(&b, second + 1));
-            assert!(rt; replaces_first(&mut a, &mut b, first + 1, 0)?);
-            assert!(rt; has(&a, first + 1, 200) && has(&b, 0, 0));
-            assert!(rt; a.len() as u64 == first + 1 && b.len() as u64 == second + 2);
+    for first in 1..41u64 {
+        for second in 1..41u64 {
+            go_into_two_maps(&rt, rt.alloc(), first, second)?;
         }
     }
     Ok(())
@@ -141,21 +160,27 @@ fn goes_in_or_comes_back(a: &mut Numbers, b: &mut Numbers, number: u64) -> bool 
     }
 }
 
+fn both_are_kept(rt: &impl Abort, alloc: Global, a: &mut Numbers, b: &mut Numbers) {
+    if put_multiples(a, 1, BEYOND, 1).is_err() {
+        assert!(rt; !is_ample(alloc));
+        return;
+    }
+    if put_multiples(b, 1, BEYOND, 1).is_err() {
+        assert!(rt; !is_ample(alloc));
+        return;
+    }
+    assert!(rt; goes_in_or_comes_back(a, b, BEYOND));
+}
+
 // Each request is refused in turn by the sweep. Where there is no memory for the maps nothing is shown.
 #[test]
 fn a_refused_pair_of_insertions_leaves_both_maps(rt: HostRuntime) {
-    let Ok(mut a) = multiples(rt.alloc(), 1, BEYOND, 1) else {
-        assert!(rt; !is_ample(rt.alloc()));
-        return;
-    };
-    let Ok(mut b) = multiples(rt.alloc(), 1, BEYOND, 1) else {
-        assert!(rt; !is_ample(rt.alloc()));
-        return;
-    };
-    assert!(rt; goes_in_or_comes_back(&mut a, &mut b, BEYOND));
+    let mut a = Numbers::new(rt.alloc());
+    let mut b = Numbers::new(rt.alloc());
+    both_are_kept(&rt, rt.alloc(), &mut a, &mut b);
 }
 
-// Whether the number behind the last was put in, or its entry was not made ready, the number came back, and the map is as it was.
+// Whether the number after the last was put in, or its entry was not made ready, the number came back, and the map is as it was.
 fn is_ready_or_comes_back(map: &mut Numbers, last: u64) -> Result<bool, TryReserveError> {
     let number = last.wrapping_add(1);
     let length = match map.try_entry(number)? {
@@ -230,15 +255,27 @@ fn needs_no_memory(a: &mut Numbers, b: &mut Numbers) -> bool {
     is_put && has_up_to(a, CAPACITY as u64) && has(b, 5, 9) && b.len() == CAPACITY
 }
 
+fn only_a_full_leaf_refuses(
+    alloc: Global,
+    a: &mut Numbers,
+    b: &mut Numbers,
+) -> Result<bool, TryReserveError> {
+    put_multiples(a, 1, CAPACITY as u64, 1)?;
+    put_multiples(b, 1, BEYOND, 1)?;
+    let held = take_all_memory(alloc)?;
+    let is_right = !is_ample(alloc) && comes_back_for_the_second(a, b) && needs_no_memory(a, b);
+    drop(held);
+    Ok(is_right)
+}
+
+fn is_refused_a_leaf(alloc: Global) -> Result<bool, TryReserveError> {
+    let mut a = Numbers::new(alloc);
+    let mut b = Numbers::new(alloc);
+    only_a_full_leaf_refuses(alloc, &mut a, &mut b)
+}
+
 #[test]
 fn only_a_full_leaf_refuses_two_pairs_not_in_a_trial(rt: HostRuntime) -> Result<(), Fail> {
-    let mut a = multiples(rt.alloc(), 1, CAPACITY as u64, 1)?;
-    let mut b = multiples(rt.alloc(), 1, BEYOND, 1)?;
-    let held = take_all_memory(rt.alloc())?;
-    let is_right = !is_ample(rt.alloc())
-        && comes_back_for_the_second(&mut a, &mut b)
-        && needs_no_memory(&mut a, &mut b);
-    drop(held);
-    assert!(rt; is_right);
+    assert!(rt; is_refused_a_leaf(rt.alloc())?);
     Ok(())
 }

@@ -8,6 +8,7 @@ use fc_base::TryReserveError;
 use fc_map::map::BTreeMap;
 use std::alloc::Global;
 use std::ops::Bound;
+use std::process::Abort;
 use std::test::Fail;
 use test_values::{Token, is_ample};
 
@@ -141,6 +142,25 @@ fn drops_a_stretch<'a>(
     map.len() == living && living.wrapping_add(gone) == was
 }
 
+fn keeps_and_drops_a_stretch<'a>(
+    rt: &impl Abort,
+    map: &mut Tracked<'a>,
+    first: &Token<'a>,
+    last: &Token<'a>,
+    drops: &'a [Drops],
+) {
+    assert!(rt; keeps_or_hands_back_each(map, drops));
+    assert!(rt; drops_a_stretch(map, first, last, drops));
+}
+
+// Of a map that is then dropped, by bounds that count their drops too.
+fn drops_a_stretch_and_the_rest(rt: &impl Abort, alloc: Global, drops: &[Drops], bounds: &Drops) {
+    let (first, _value) = pair(40, bounds);
+    let (last, _value) = pair(90, bounds);
+    let mut map = BTreeMap::new(alloc);
+    keeps_and_drops_a_stretch(rt, &mut map, &first, &last, drops);
+}
+
 // Each request is refused in turn by the sweep.
 #[test]
 fn those_of_a_range_are_dropped_once(rt: HostRuntime) {
@@ -148,14 +168,7 @@ fn those_of_a_range_are_dropped_once(rt: HostRuntime) {
         assert!(rt; !is_ample(rt.alloc()));
         return;
     };
-    let of_first = no_drops();
-    let of_last = no_drops();
-    {
-        let first = pair(40, &of_first);
-        let last = pair(90, &of_last);
-        let mut map: Tracked<'_> = BTreeMap::new(rt.alloc());
-        assert!(rt; keeps_or_hands_back_each(&mut map, &drops));
-        assert!(rt; drops_a_stretch(&mut map, &first.0, &last.0, &drops));
-    }
+    let bounds = no_drops();
+    drops_a_stretch_and_the_rest(&rt, rt.alloc(), &drops, &bounds);
     assert!(rt; were_all_dropped(&drops, 1));
 }

@@ -2,24 +2,37 @@
 use crate::numbers::{Numbers, insert, multiples};
 use crate::owned::is_right;
 use fc_base::TryReserveError;
-use fc_map::map::BTreeMap;
 use std::alloc::Global;
 
-// So many numbers that ascend, each second one from the first on.
-fn each_second(alloc: Global, first: u64, count: u64) -> Result<Numbers, TryReserveError> {
-    let mut map = BTreeMap::new(alloc);
+// Puts in so many numbers that ascend, each second one from the first on.
+fn put_each_second(map: &mut Numbers, first: u64, count: u64) -> Result<(), TryReserveError> {
     for place in 0..count {
-        insert(&mut map, place.wrapping_mul(2).wrapping_add(first), place)?;
+        insert(map, place.wrapping_mul(2).wrapping_add(first), place)?;
     }
-    Ok(map)
+    Ok(())
 }
 
-// Appends so many odd numbers to so many even ones, so that they take turns.
+// How many there are once so many odd numbers are appended to so many even ones, so that they take turns.
+fn joined_in_turns(
+    map: &mut Numbers,
+    other: &mut Numbers,
+    ours: u64,
+    theirs: u64,
+) -> Result<usize, TryReserveError> {
+    put_each_second(map, 0, ours)?;
+    put_each_second(other, 1, theirs)?;
+    map.append(other)?;
+    Ok(map.len())
+}
+
+fn joined(alloc: Global, ours: u64, theirs: u64) -> Result<usize, TryReserveError> {
+    let mut map = Numbers::new(alloc);
+    let mut other = Numbers::new(alloc);
+    joined_in_turns(&mut map, &mut other, ours, theirs)
+}
+
 fn appends_in_turns(alloc: Global, ours: u64, theirs: u64) -> Result<bool, TryReserveError> {
-    let mut map = each_second(alloc, 0, ours)?;
-    let mut other = each_second(alloc, 1, theirs)?;
-    map.append(&mut other)?;
-    Ok(map.len() as u64 == ours.wrapping_add(theirs))
+    Ok(joined(alloc, ours, theirs)? as u64 == ours.wrapping_add(theirs))
 }
 
 #[test]
@@ -39,10 +52,18 @@ fn an_append_of_128_and_127_asks_for_two_leaves_and_a_root(rt: HostRuntime) {
 }
 
 // Extends an empty map by so many numbers in order, which another map gives up.
-fn extends_in_order(alloc: Global, count: u64) -> Result<bool, TryReserveError> {
-    let mut map: Numbers = BTreeMap::new(alloc);
+fn is_extended_in_order(
+    alloc: Global,
+    map: &mut Numbers,
+    count: u64,
+) -> Result<bool, TryReserveError> {
     map.try_extend(multiples(alloc, 0, count, 1)?)?;
     Ok(map.len() as u64 == count)
+}
+
+fn extends_in_order(alloc: Global, count: u64) -> Result<bool, TryReserveError> {
+    let mut map = Numbers::new(alloc);
+    is_extended_in_order(alloc, &mut map, count)
 }
 
 #[test]

@@ -7,6 +7,7 @@ use crate::numbers::{Numbers, insert, multiples};
 use fc_base::TryReserveError;
 use fc_map::map::BTreeMap;
 use std::alloc::Global;
+use std::process::Abort;
 use std::test::Fail;
 use test_values::is_ample;
 
@@ -160,6 +161,17 @@ fn drops_odd_ones<'a>(map: &mut Tracked<'a>, drops: &[Drops]) -> bool {
     map.len() == living && living <= before
 }
 
+fn keeps_and_drops_odd_ones<'a>(rt: &impl Abort, map: &mut Tracked<'a>, drops: &'a [Drops]) {
+    assert!(rt; keeps_or_hands_back_each(map, drops));
+    assert!(rt; drops_odd_ones(map, drops));
+}
+
+// Of a map that is then dropped.
+fn drops_odd_ones_and_the_rest(rt: &impl Abort, alloc: Global, drops: &[Drops]) {
+    let mut map = BTreeMap::new(alloc);
+    keeps_and_drops_odd_ones(rt, &mut map, drops);
+}
+
 // Each request is refused in turn by the sweep.
 #[test]
 fn those_that_do_not_stay_are_dropped_once(rt: HostRuntime) {
@@ -167,10 +179,6 @@ fn those_that_do_not_stay_are_dropped_once(rt: HostRuntime) {
         assert!(rt; !is_ample(rt.alloc()));
         return;
     };
-    {
-        let mut map: Tracked<'_> = BTreeMap::new(rt.alloc());
-        assert!(rt; keeps_or_hands_back_each(&mut map, &drops));
-        assert!(rt; drops_odd_ones(&mut map, &drops));
-    }
+    drops_odd_ones_and_the_rest(&rt, rt.alloc(), &drops);
     assert!(rt; were_all_dropped(&drops, 1));
 }

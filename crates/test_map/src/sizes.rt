@@ -3,7 +3,7 @@
 /// The most pairs of a node.
 pub(crate) const CAPACITY: usize = 15;
 
-/// The number behind those that fill a leaf, where they begin with one.
+/// The number after those that fill a leaf, where they begin with one.
 pub(crate) const BEYOND: u64 = CAPACITY as u64 + 1;
 
 /// The fewest children of an inner node below the root.

@@ -71,7 +71,7 @@ impl Sorted {
         self.keys.len()
     }
 
-    // Puts a key at its place: one move for it, and one for each key behind.
+    // Puts a key at its place: one move for it, and one for each key after.
     fn insert(&mut self, key: u64) -> Result<(), AllocError> {
         let place = self.place_by_halving(key);
         for _ in place..self.keys.len() {
@@ -94,7 +94,7 @@ fn a_search_from_the_left_compares_too_often(rt: HostRuntime) -> Result<(), Fail
     Ok(())
 }
 
-// A search by halving makes few comparisons, but the 70th key, put in front of the others, takes 70 moves, where fewer are
+// A search by halving makes few comparisons, but the 70th key, put before the others, takes 70 moves, where fewer are
 // allowed for two levels.
 #[test]
 fn a_sorted_vector_moves_too_often(rt: HostRuntime) -> Result<(), Fail> {

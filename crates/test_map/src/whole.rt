@@ -12,19 +12,18 @@ fn key(number: u64) -> Tagged {
     Tagged::new(number, '?')
 }
 
-// These numbers, each with the letter of the map and the letter at its place.
-fn letters(
-    alloc: Global,
+// Puts in these numbers, each with the letter of the map and the letter at its place.
+fn put_letters(
+    map: &mut Letters,
     numbers: &[u64],
     letter: char,
     values: &str,
-) -> Result<Letters, TryReserveError> {
-    let mut map = BTreeMap::new(alloc);
+) -> Result<(), TryReserveError> {
     for (number, value) in numbers.iter().zip(values.chars()) {
         let number = *number;
         map.try_insert(Tagged::new(number, letter), value)?;
     }
-    Ok(map)
+    Ok(())
 }
 
 // Whether a walk gives these numbers with these letters, of keys and of values, and nothing else.
@@ -52,26 +51,46 @@ fn append(map: &mut Letters, other: &mut Letters) -> Result<(), TryReserveError>
     map.append(other)
 }
 
+fn put_two(map: &mut Letters, other: &mut Letters) -> Result<(), TryReserveError> {
+    put_letters(map, &[1, 2, 3], 'x', "abc")?;
+    put_letters(other, &[3, 4, 5], 'y', "def")
+}
+
 // Of the pairs 1a, 2b, 3c and 3d, 4e, 5f the key 3 and its value are the other's.
+fn are_joined(map: &mut Letters, other: &mut Letters) -> Result<bool, TryReserveError> {
+    put_two(map, other)?;
+    append(map, other)?;
+    Ok(reads(map, &[1, 2, 3, 4, 5], "xxyyy", "abdef") && reads(other, &[], "", ""))
+}
+
 fn joins(alloc: Global) -> Result<bool, TryReserveError> {
-    let mut map = letters(alloc, &[1, 2, 3], 'x', "abc")?;
-    let mut other = letters(alloc, &[3, 4, 5], 'y', "def")?;
-    append(&mut map, &mut other)?;
-    Ok(reads(&map, &[1, 2, 3, 4, 5], "xxyyy", "abdef") && reads(&other, &[], "", ""))
+    let mut map = Letters::new(alloc);
+    let mut other = Letters::new(alloc);
+    are_joined(&mut map, &mut other)
 }
 
 // Whether a split leaves so many of the numbers, and answers the others.
-fn splits(alloc: Global, numbers: &[u64], at: u64, left: usize) -> Result<bool, TryReserveError> {
-    let all = "abcdefghijkl";
-    let mut map = letters(alloc, numbers, 'x', all)?;
-    let rest = map.split_off(&key(at))?;
+fn is_cut(
+    map: &mut Letters,
+    numbers: &[u64],
+    at: u64,
+    left: usize,
+) -> Result<bool, TryReserveError> {
     if left > numbers.len() || left > 12 {
         return Ok(false);
     }
+    let all = "abcdefghijkl";
+    put_letters(map, numbers, 'x', all)?;
+    let rest = map.split_off(&key(at))?;
     Ok(
-        reads(&map, &numbers[..left], "xxxxxxxxxxxx", all)
+        reads(map, &numbers[..left], "xxxxxxxxxxxx", all)
             && reads(&rest, &numbers[left..], "xxxxxxxxxxxx", after(all, left)),
     )
+}
+
+fn splits(alloc: Global, numbers: &[u64], at: u64, left: usize) -> Result<bool, TryReserveError> {
+    let mut map = Letters::new(alloc);
+    is_cut(&mut map, numbers, at, left)
 }
 
 fn after(text: &str, place: usize) -> &str {
@@ -120,19 +139,33 @@ fn only_one_with_pairs_is_refused(none: &mut Letters, other: &mut Letters) -> bo
     is_cut && is_refused && reads(other, &[3, 4, 5], "yyy", "def")
 }
 
+fn are_refused(
+    alloc: Global,
+    map: &mut Letters,
+    other: &mut Letters,
+    none: &mut Letters,
+) -> Result<bool, TryReserveError> {
+    put_two(map, other)?;
+    let held = take_all_memory(alloc)?;
+    let is_right = !is_ample(alloc)
+        && only_two_with_pairs_are_refused(map, other, none)
+        && only_one_with_pairs_is_refused(map, other);
+    drop(held);
+    Ok(is_right)
+}
+
+fn are_refused_without_memory(alloc: Global) -> Result<bool, TryReserveError> {
+    let mut map = Letters::new(alloc);
+    let mut other = Letters::new(alloc);
+    let mut none = Letters::new(alloc);
+    are_refused(alloc, &mut map, &mut other, &mut none)
+}
+
 // A run that gets its memory from elsewhere, as one without proof does, would show nothing, and fails.
 #[test]
 fn with_all_memory_refused_only_pairs_are_joined_or_cut_in_vain_not_in_a_trial(
     rt: HostRuntime,
 ) -> Result<(), Fail> {
-    let mut map = letters(rt.alloc(), &[1, 2, 3], 'x', "abc")?;
-    let mut other = letters(rt.alloc(), &[3, 4, 5], 'y', "def")?;
-    let mut none = letters(rt.alloc(), &[], 'z', "")?;
-    let held = take_all_memory(rt.alloc())?;
-    let is_right = !is_ample(rt.alloc())
-        && only_two_with_pairs_are_refused(&mut map, &mut other, &mut none)
-        && only_one_with_pairs_is_refused(&mut map, &mut other);
-    drop(held);
-    assert!(rt; is_right);
+    assert!(rt; are_refused_without_memory(rt.alloc())?);
     Ok(())
 }

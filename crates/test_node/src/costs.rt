@@ -1,7 +1,7 @@
 //! How many moves calls on lists of given lengths make: numbers, proved from the contracts of the calls.
 ghost use Rattle.std.specs.Prelude.{◌≡◌, ◌+◌, ◌-◌, ◌<◌, ◌≤◌, [], length};
 ghost use Rattle.fc_base.specs.Sizes.{capacity, min_len, level_moves};
-ghost use Rattle.fc_tree_node.specs.Node.{own_pairs, child_at, IsLeaf, IsInner, IsBlankLeaf};
+ghost use Rattle.fc_tree_node.specs.Node.{own_pairs, child_at, IsLeaf, IsInner, IsEmptyLeaf};
 ghost use Rattle.fc_tree_node.specs.Siblings.{AreAlike};
 
 use fc_base::Count;
@@ -94,8 +94,8 @@ pub fn move_last_three_before_four<T: Drop>(
     count
 }
 
-/// The split of a full node makes 16, 9, 16, 14 or 8 moves where the new pair goes in front of all pairs, in front of the middle one,
-/// behind it, one further on, or behind all.
+/// The split of a full node makes 16, 9, 16, 14 or 8 moves where the new pair goes before all pairs, before the middle one,
+/// after it, one further on, or after all.
 pub fn split_full<K: Drop, V: Drop>(
     node: &mut Node<K, V>,
     index: usize,
@@ -105,11 +105,11 @@ pub fn split_full<K: Drop, V: Drop>(
     requires full { length (own_pairs node.old) ≡ capacity }
     requires in_bounds { index ≤ capacity }
     requires leaf { IsLeaf node.old }
-    requires blank { IsBlankLeaf right }
+    requires empty { IsEmptyLeaf right }
     ensures first { index ≡ 0 → result.moves ≡ 16 }
     ensures before_middle { index ≡ min_len → result.moves ≡ 9 }
     ensures after_middle { index ≡ min_len + 1 → result.moves ≡ 16 }
-    ensures behind_middle { index ≡ min_len + 2 → result.moves ≡ 14 }
+    ensures two_after_middle { index ≡ min_len + 2 → result.moves ≡ 14 }
     ensures last { index ≡ capacity → result.moves ≡ 8 }
 {
     let mut count = Count::new();

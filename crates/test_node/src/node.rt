@@ -1,6 +1,6 @@
 // Expected pairs and children are written out from the rules of splits, merges and thefts.
 ghost use Rattle.std.specs.Bool.{OnTrue};
-ghost use Rattle.fc_tree_node.specs.Node.{IsBlankLeaf};
+ghost use Rattle.fc_tree_node.specs.Node.{IsEmptyLeaf};
 ghost use Rattle.fc_tree_node.specs.Siblings.{AreAlike};
 
 use fc_base::{Count, TryReserveError};
@@ -10,14 +10,14 @@ use std::process::Abort;
 use std::test::Fail;
 use test_values::{Tally, Token};
 
-// Puts the pair behind those of a leaf. The helpers are generic, so that they are proved once for numbers and tokens.
+// Puts the pair after those of a leaf. The helpers are generic, so that they are proved once for numbers and tokens.
 fn push<V: Drop>(rt: &impl Abort, leaf: &mut Node<u64, V>, key: u64, value: V) {
     let len = leaf.len();
     assert!(rt; len < CAPACITY && leaf.is_leaf());
     leaf.insert_leaf(len, (key, value), &mut Count::new());
 }
 
-// Puts the pair and the child behind those of an inner node.
+// Puts the pair and the child after those of an inner node.
 fn push_child<V: Drop>(
     rt: &impl Abort,
     node: &mut Node<u64, V>,
@@ -127,7 +127,7 @@ const BELOW: [u64; PLACES] = [
     1, 11, 21, 31, 41, 51, 61, 71, 81, 91, 101, 111, 121, 131, 141, 151,
 ];
 
-// The full node's keys in front of the middle one or behind it, where the new key is in the other half.
+// The full node's keys before the middle one or after it, where the new key is in the other half.
 const TO_70: &[u64] = &[10, 20, 30, 40, 50, 60, 70];
 
 const TO_80: &[u64] = &[10, 20, 30, 40, 50, 60, 70, 80];
@@ -197,7 +197,7 @@ fn split_leaf<V: Drop>(
     pair: (u64, V),
     right: Node<u64, V>,
 ) -> ((u64, V), Node<u64, V>)
-    requires { IsBlankLeaf right }
+    requires { IsEmptyLeaf right }
 {
     assert!(rt; place < PLACES && node.is_leaf() && node.len() == CAPACITY);
     node.split_leaf(place, pair, right, &mut Count::new())
@@ -284,7 +284,7 @@ fn are_alike<V: Drop>(left: &Node<u64, V>, right: &Node<u64, V>) -> bool
     }
 }
 
-// Makes the call on the children at the place and behind it.
+// Makes the call on the children at the place and after it.
 fn mend<V: Drop>(rt: &impl Abort, node: &mut Node<u64, V>, index: usize, call: Call) {
     let mut count = Count::new();
     assert!(rt; index < node.len() && node.child_count() == node.len() + 1);
@@ -315,7 +315,7 @@ fn mend<V: Drop>(rt: &impl Abort, node: &mut Node<u64, V>, index: usize, call: C
     }
 }
 
-// A call on a node over leaves, the leaves' keys before it, and the node's keys and the leaves' behind it. Before it the node
+// A call on a node over leaves, the leaves' keys before it, and the node's keys and the leaves' after it. Before it the node
 // has the keys 70 and 140, or 70 alone over two leaves.
 #[derive(Drop)]
 struct Row {
@@ -528,8 +528,8 @@ fn children_go_with_their_pairs(rt: HostRuntime) -> Result<(), Fail> {
     Ok(())
 }
 
-// Moves what stands behind the first pair.
-fn move_behind_first<V: Drop>(rt: &impl Abort, node: &mut Node<u64, V>, other: &mut Node<u64, V>) {
+// Moves what stands after the first pair.
+fn move_after_first<V: Drop>(rt: &impl Abort, node: &mut Node<u64, V>, other: &mut Node<u64, V>) {
     assert!(rt; are_alike(node, other));
     assert!(rt; 1 <= node.len() && node.len() <= CAPACITY && other.len() <= 1);
     node.move_suffix(1, other, &mut Count::new());
@@ -542,7 +542,7 @@ fn are_leaves(node: &Node<u64, u64>, keys: &[u64], other: &Node<u64, u64>, moved
 fn moves_between_leaves(rt: &impl Abort, alloc: Global) -> Result<bool, Fail> {
     let mut node = leaf(rt, alloc, LOW)?;
     let mut other = leaf(rt, alloc, &[5])?;
-    move_behind_first(rt, &mut node, &mut other);
+    move_after_first(rt, &mut node, &mut other);
     Ok(are_leaves(&node, &[10], &other, &[5, 20, 30, 40, 50, 60]))
 }
 
@@ -553,7 +553,7 @@ fn is_inner(node: &Node<u64, u64>, keys: &[u64], below: &[u64]) -> bool {
 fn moves_between_inner_nodes(rt: &impl Abort, alloc: Global) -> Result<bool, Fail> {
     let mut node = inner(rt, alloc, &[10, 20, 30], &[1, 11, 21, 31])?;
     let mut other = inner(rt, alloc, &[], &[15])?;
-    move_behind_first(rt, &mut node, &mut other);
+    move_after_first(rt, &mut node, &mut other);
     Ok(is_inner(&node, &[10], &[1, 11]) && is_inner(&other, &[20, 30], &[15, 21, 31]))
 }
 

@@ -11,7 +11,7 @@ use std::process::Abort;
 use std::test::Fail;
 use test_values::{Tally, Token};
 
-// Puts the item behind the others.
+// Puts the item after the others.
 fn push<T: Drop>(rt: &impl Abort, slots: &mut Slots<T, 4>, item: T) {
     assert!(rt; slots.len() < 4);
     slots.push(item, &mut Count::new());

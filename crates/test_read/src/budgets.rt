@@ -15,7 +15,7 @@ fn is_out_of_memory(answer: io::Result<usize>) -> bool {
     }
 }
 
-// One of the calls that read so many bytes behind those of the buffer, and how many bytes the source has left.
+// One of the calls that read so many bytes after those of the buffer, and how many bytes the source has left.
 fn read(buf: &mut TryVec<u8, &Budget<Global>>, limit: u64, way: u64) -> (io::Result<usize>, usize) {
     let mut src = TEN;
     if way == 0 {

@@ -3,6 +3,10 @@
 
 #[cfg(test)]
 mod budgets;
+#[cfg(test)]
+mod examples;
+#[cfg(test)]
+mod lines;
 pub mod pieces;
 #[cfg(test)]
 mod printing;

@@ -92,7 +92,7 @@ fn the_front_is_read_and_no_more(rt: HostRuntime) {
 }
 
 #[test]
-fn what_was_there_stays_in_front(rt: HostRuntime) -> Result<(), Fail> {
+fn what_was_there_stays_first(rt: HostRuntime) -> Result<(), Fail> {
     let mut src = in_pieces(b"1234567890", 3);
     let mut buf = TryVec::try_from_str(rt.alloc(), "ab")?;
     let first = read(&mut src, 4, &mut buf);
@@ -184,7 +184,7 @@ fn an_error_is_passed_on(rt: HostRuntime) {
     }
 }
 
-// The sweep refuses the room for five bytes, of which a block has eight at least: the source and the limit stay as they are. With room, the source fails behind
+// The sweep refuses the room for five bytes, of which a block has eight at least: the source and the limit stay as they are. With room, the source fails after
 // three, and the buffer is dropped with these.
 #[test]
 fn a_failed_or_refused_vector_is_dropped(rt: HostRuntime) -> Result<(), Fail> {

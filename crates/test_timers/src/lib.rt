@@ -4,6 +4,8 @@
 #[cfg(test)]
 mod budget;
 #[cfg(test)]
+mod examples;
+#[cfg(test)]
 mod listed;
 #[cfg(test)]
 mod order;

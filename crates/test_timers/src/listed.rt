@@ -7,7 +7,7 @@ use crate::row::Numbers;
 use fc_timers::{Timer, TimerQueue, TryReserveError};
 use std::test::Fail;
 
-/// Puts a timer in: it stands behind all that are due by its time, and ahead of all others.
+/// Puts a timer in: it stands after all that are due by its time, and before all others.
 pub fn put_in(queue: &mut Numbers, at: u64, value: u64) -> Result<Timer, TryReserveError>
     ensures { IfOk result (λ timer. in_order nat_cmp queue.new ≡ due_by nat_cmp (in_order nat_cmp queue.old) at ++ ((at, queue.old.next_number), (timer, value)) ∷ due_after nat_cmp (in_order nat_cmp queue.old) at) }
 {
@@ -18,7 +18,7 @@ pub fn put_in(queue: &mut Numbers, at: u64, value: u64) -> Result<Timer, TryRese
     }
 }
 
-/// Takes the first timer out, where it is due: the others are what was behind it.
+/// Takes the first timer out, where it is due: the others are what was after it.
 pub fn take_first(queue: &mut Numbers, now: u64) -> Option<(u64, u64)>
     ensures { IfSome result (λ pair. times_and_values (in_order nat_cmp queue.old) ≡ pair ∷ times_and_values (in_order nat_cmp queue.new)) }
 {

@@ -29,7 +29,7 @@ fn timers_of_one_time_come_out_as_they_were_put_in(rt: HostRuntime) -> Result<()
 }
 
 #[test]
-fn a_rescheduled_timer_is_behind_those_of_its_time(rt: HostRuntime) -> Result<(), Fail> {
+fn a_rescheduled_timer_is_after_those_of_its_time(rt: HostRuntime) -> Result<(), Fail> {
     let mut queue: Numbers = TimerQueue::new(rt.alloc());
     let first = insert(&mut queue, 10, 1)?;
     let second = insert(&mut queue, 10, 2)?;

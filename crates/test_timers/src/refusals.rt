@@ -87,9 +87,9 @@ fn room_is_made_for_so_many(rt: HostRuntime) -> Result<(), Fail> {
         assert!(rt; queue.try_insert(at, at).is_ok());
     }
     let too_many = refusal(&mut queue, usize::MAX - 3);
-    let past_the_end = refusal(&mut queue, usize::MAX - 2);
+    let after_the_end = refusal(&mut queue, usize::MAX - 2);
     assert!(rt; matches!(too_many, Some(TryReserveError::AllocError)));
-    assert!(rt; matches!(past_the_end, Some(TryReserveError::CapacityOverflow)));
+    assert!(rt; matches!(after_the_end, Some(TryReserveError::CapacityOverflow)));
     assert!(rt; queue.len() == 3);
     Ok(())
 }

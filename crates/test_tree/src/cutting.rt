@@ -8,7 +8,7 @@ use std::alloc::Global;
 use std::process::Abort;
 use std::test::Fail;
 
-// The key behind the last one, if the keys of the tree follow one another from `start` on.
+// The key after the last one, if the keys of the tree follow one another from `start` on.
 fn run_end(node: &Node<u64, u64>, height: usize, start: u64) -> Option<u64> {
     let mut key = start;
     for i in 0..node.len() {

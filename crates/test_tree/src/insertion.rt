@@ -55,7 +55,7 @@ fn put(
     Ok(())
 }
 
-// Inserts the key behind all pairs of a tree of one level or two.
+// Inserts the key after all pairs of a tree of one level or two.
 pub(crate) fn put_last(
     rt: &impl Abort,
     alloc: Global,
@@ -145,7 +145,7 @@ fn each_place_of_a_full_leaf(rt: HostRuntime) -> Result<(), Fail> {
     Ok(())
 }
 
-// How many nodes the insertion of the key behind those below it takes: one for each split, and one for a new root. Worked out for
+// How many nodes the insertion of the key after those below it takes: one for each split, and one for a new root. Worked out for
 // nodes of at most fifteen pairs.
 fn nodes_for(key: u64) -> usize {
     if key == 151 {

@@ -14,7 +14,7 @@ const SPLIT: &str = "9
 const MERGED: &str = "1 2 3 4 5 6 7 8 9 10 11 12 13 14 15
 ";
 
-// Draws a node's keys on a line, behind so many spaces.
+// Draws a node's keys on a line, after so many spaces.
 fn draw_line(node: &Node<u64, u64>, spaces: &str, text: &mut String) -> Result<(), AllocError> {
     text.push_str(spaces)?;
     for i in 0..node.len() {

@@ -77,14 +77,14 @@ pub(crate) fn is_place(node: &Node<u64, u64>, path: &[u8]) -> bool
     i < node.child_count() && is_place(node.child(i), &path[1..])
 }
 
-// Puts the key behind those of a leaf.
+// Puts the key after those of a leaf.
 fn push(rt: &impl Abort, leaf: &mut Node<u64, u64>, key: u64) {
     let len = leaf.len();
     assert!(rt; len < CAPACITY && leaf.is_leaf());
     leaf.insert_leaf(len, (key, key), &mut Count::new());
 }
 
-// Puts the key and the child behind those of an inner node.
+// Puts the key and the child after those of an inner node.
 pub(crate) fn push_child(
     rt: &impl Abort,
     node: &mut Node<u64, u64>,
@@ -110,7 +110,7 @@ pub(crate) fn leaf(
     Ok(node)
 }
 
-// An inner node of this subtree alone: others come behind it, so that nobody holds two at a time.
+// An inner node of this subtree alone: others come after it, so that nobody holds two at a time.
 pub(crate) fn over(alloc: Global, first: Node<u64, u64>) -> Result<Node<u64, u64>, Fail> {
     let mut node = Node::try_inner(alloc)?;
     node.adopt(first);
@@ -120,10 +120,10 @@ pub(crate) fn over(alloc: Global, first: Node<u64, u64>) -> Result<Node<u64, u64
 // The fewest children of an inner node below the root.
 const LEAST_CHILDREN: usize = MIN_LEN + 1;
 
-// A leaf of the fewest keys, and the key behind it.
+// A leaf of the fewest keys, and the key after it.
 pub(crate) const LEAF: u64 = LEAST_CHILDREN as u64;
 
-// The keys of an inner node with the fewest, over such leaves, and the key behind it.
+// The keys of an inner node with the fewest, over such leaves, and the key after it.
 pub(crate) const INNER: u64 = LEAF * LEAF;
 
 // An inner node of the fewest keys, between leaves of the fewest keys each, from `start` on.

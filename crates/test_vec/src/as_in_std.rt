@@ -50,12 +50,12 @@ fn pairs(alloc: Global) -> Result<TryVec<(u64, u64)>, TryReserveError> {
 fn are_in_order(v: &TryVec<(u64, u64)>, descending: bool) -> bool {
     for pair in v.windows(2) {
         let (first, second) = (pair[0], pair[1]);
-        let is_ahead = if descending {
+        let is_before = if descending {
             second.0 < first.0
         } else {
             first.0 < second.0
         };
-        if !is_ahead && !(first.0 == second.0 && first.1 < second.1) {
+        if !is_before && !(first.0 == second.0 && first.1 < second.1) {
             return false;
         }
     }
@@ -159,7 +159,7 @@ fn double_from(v: &mut TryVec<u64>, start: usize) {
     }
 }
 
-fn digits_from_behind(v: &TryVec<u64>) -> u64 {
+fn digits_from_the_back(v: &TryVec<u64>) -> u64 {
     let mut number: u64 = 0;
     for item in v.iter().rev() {
         number = number.wrapping_mul(10).wrapping_add(*item);
@@ -179,7 +179,7 @@ fn sums_of_pairs(v: &TryVec<u64>) -> u64 {
 fn a_vector_is_a_slice(rt: HostRuntime) -> Result<(), Fail> {
     let mut v = of(rt.alloc(), &[1, 2, 3, 4, 5])?;
     assert!(rt; sum_between(&v, 1, 3) == 5 && sum_between(&v, 0, 5) == 15 && sum(&v) == 15);
-    assert!(rt; digits_from_behind(&v) == 54321 && sums_of_pairs(&v) == 375);
+    assert!(rt; digits_from_the_back(&v) == 54321 && sums_of_pairs(&v) == 375);
     double_from(&mut v, 3);
     assert!(rt; holds(&v, &[1, 2, 3, 8, 10]));
     double(&mut v);

@@ -216,7 +216,7 @@ fn joined_items_lie_with_the_list(rt: HostRuntime) {
     assert_eq!(rt; (wide.used(), parts.used()), (0, 0));
 }
 
-// Whether neither the text nor a byte behind it has room.
+// Whether neither the text nor a byte after it has room.
 fn are_bytes_refused(budget: &Budget<Global>) -> bool {
     let Ok(mut bytes) = TryVec::try_from_str(budget, "0123456789") else {
         return false;
@@ -239,7 +239,7 @@ fn refused_bytes_leave_those_before(rt: HostRuntime) {
     assert!(rt; budget.used() == 0);
 }
 
-// Three in room for five, behind which two of four go.
+// Three in room for five, after which two of four go.
 fn is_extended_up_to_its_room(budget: &Budget<Global>) -> bool {
     let Ok(mut v) = made(budget, 0) else {
         return false;
@@ -249,7 +249,7 @@ fn is_extended_up_to_its_room(budget: &Budget<Global>) -> bool {
     is_ready && is_refused(&answer) && v.as_slice() == [1, 4, 5, 6, 7].as_slice()
 }
 
-// The two behind the first three take 16 bytes.
+// The two after the first three take 16 bytes.
 fn parted(budget: &Budget<Global>) -> (bool, usize, usize) {
     let Ok(mut v) = made(budget, 1) else {
         return (false, 0, 0);

@@ -135,7 +135,7 @@ fn is_resized(alloc: Global, given: u64, own: TryReserveError, after: &[u64]) ->
     is_as_given(error, given == 2, own) && are(&v, after)
 }
 
-// A body that takes the copies out again leaves no 9 behind the two.
+// A body that takes the copies out again leaves no 9 after the two.
 #[test]
 fn a_resize_keeps_the_copies_before_the_refused_one(rt: HostRuntime) {
     for given in 0..3u64 {

@@ -67,7 +67,7 @@ fn items_written_at_places(rt: HostRuntime) -> Result<(), Fail> {
     Ok(())
 }
 
-// The item at the place, and what is left; the last item moves there, or all behind it do.
+// The item at the place, and what is left; the last item moves there, or all after it do.
 fn removed(v: &mut TryVec<u64>, index: usize, by_last: bool) -> u64 {
     if index >= v.len() {
         return 0;
@@ -131,8 +131,8 @@ fn items_in_order(rt: HostRuntime) -> Result<(), Fail> {
     Ok(())
 }
 
-// The digits from the last one on, and how many the walk says are left before each, behind the number.
-fn digits_from_behind(v: &TryVec<u64>) -> u64 {
+// The digits from the last one on, and how many the walk says are left before each, after the number.
+fn digits_from_the_back(v: &TryVec<u64>) -> u64 {
     let mut walk = v.iter();
     let mut number: u64 = 0;
     let mut left = walk.len() as u64;
@@ -147,9 +147,9 @@ fn digits_from_behind(v: &TryVec<u64>) -> u64 {
 }
 
 #[test]
-fn a_walk_from_behind(rt: HostRuntime) -> Result<(), Fail> {
+fn a_walk_from_the_back(rt: HostRuntime) -> Result<(), Fail> {
     let v = of(rt.alloc(), &[3, 4, 5])?;
-    assert!(rt; digits_from_behind(&v) == 5433210);
+    assert!(rt; digits_from_the_back(&v) == 5433210);
     Ok(())
 }
 

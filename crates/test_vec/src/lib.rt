@@ -15,6 +15,8 @@ mod copies;
 #[cfg(test)]
 mod drops;
 #[cfg(test)]
+mod examples;
+#[cfg(test)]
 mod items;
 #[cfg(test)]
 mod large;

@@ -138,7 +138,7 @@ fn resized(
     v.try_resize_no_copy(length, value)
 }
 
-// Two boxes in their room; a box, room for five, and two copies of the box. Refused, the copies that were made stay behind the two.
+// Two boxes in their room; a box, room for five, and two copies of the box. Refused, the copies that were made stay after the two.
 #[test]
 fn a_box_fills_a_vector(rt: HostRuntime) -> Result<(), Fail> {
     let Ok(two) = boxes_at_last(rt.alloc(), 1, 2) else {
@@ -162,7 +162,7 @@ fn extended(v: &mut Boxes, sources: &Boxes) -> Result<(), TryReserveError> {
 
 // Two boxes in their room; room for four, and two copies.
 #[test]
-fn boxes_are_copied_behind_others(rt: HostRuntime) -> Result<(), Fail> {
+fn boxes_are_copied_after_others(rt: HostRuntime) -> Result<(), Fail> {
     let Ok(sources) = boxes_at_last(rt.alloc(), 1, 2) else {
         assert!(rt; !is_ample(rt.alloc()));
         return Ok(());
@@ -184,7 +184,7 @@ fn appended(v: &mut Boxes, other: &mut Boxes) -> Result<(), TryReserveError> {
 
 // Two boxes and one, in their rooms; and room for four.
 #[test]
-fn boxes_are_moved_behind_others(rt: HostRuntime) -> Result<(), Fail> {
+fn boxes_are_moved_after_others(rt: HostRuntime) -> Result<(), Fail> {
     let Ok(mut v) = boxes_at_last(rt.alloc(), 1, 2) else {
         assert!(rt; !is_ample(rt.alloc()));
         return Ok(());
@@ -271,7 +271,7 @@ fn boxes_are_collected(rt: HostRuntime) -> Result<(), Fail> {
     Ok(())
 }
 
-// The number at the place, whose box is taken out, and let go; the last one moves there, or all behind it do.
+// The number at the place, whose box is taken out, and let go; the last one moves there, or all after it do.
 fn taken(v: &mut Boxes, index: usize, by_last: bool) -> Option<u64> {
     if index >= v.len() {
         return None;

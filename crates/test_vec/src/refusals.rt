@@ -71,7 +71,7 @@ fn extended<'a>(v: &mut Vec<Boxed<'a>>, sources: &[Boxed<'a>]) -> Result<(), Try
 }
 
 // With the room refused no copy is asked for; with the box of a copy refused, the copies before it stay, as many as were asked for but one.
-fn is_refused_behind_copies(
+fn is_refused_after_copies(
     answer: &Result<(), TryReserveError>,
     v: &Vec<Boxed>,
     asked: u64,
@@ -81,7 +81,7 @@ fn is_refused_behind_copies(
         && (v.capacity() == 0) == (asked == 0)
 }
 
-// Whether all sources go in behind those that were kept by the same call once more, or it is refused again, as there is no memory.
+// Whether all sources go in after those that were kept by the same call once more, or it is refused again, as there is no memory.
 fn is_extended_again<'a>(alloc: Global, v: &mut Vec<Boxed<'a>>, sources: &[Boxed<'a>]) -> bool {
     let kept = v.len();
     if extended(v, sources).is_err() {
@@ -106,7 +106,7 @@ fn an_extension_keeps_the_boxes_before_the_refused_one(rt: HostRuntime) -> Resul
         assert!(rt; v.len() == 3 && asked.get() == 3);
     } else {
         println!(rt; "refused")?;
-        assert!(rt; is_refused_behind_copies(&answer, &v, asked.get()));
+        assert!(rt; is_refused_after_copies(&answer, &v, asked.get()));
         assert!(rt; is_extended_again(rt.alloc(), &mut v, &sources) && count_up(&sources));
     }
     Ok(())

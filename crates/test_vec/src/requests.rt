@@ -124,7 +124,7 @@ fn ours_grown_in_room(alloc: Global, way: u64) -> Result<Vec<u64>, TryReserveErr
     Ok(v.into_vec())
 }
 
-// Room for just two, and then an item and one ahead of it, by calls that hand it back.
+// Room for just two, and then an item and one before it, by calls that hand it back.
 fn put_in_room(alloc: Global) -> Result<Vec<u64>, TryReserveError> {
     let mut v: Vec<u64> = FallibleVec::try_with_capacity(alloc, 2)?;
     let is_put = v.try_push_give_back(7).is_ok() && v.try_insert(0, 7).is_ok();

@@ -29,7 +29,7 @@ fn reserved_for_characters(v: &mut TryVec<char>, more: usize) -> Result<(), TryR
 }
 
 #[test]
-fn characters_past_the_bytes_of_an_allocation(rt: HostRuntime) {
+fn more_characters_than_the_bytes_of_an_allocation(rt: HostRuntime) {
     let mut v = TryVec::new(rt.alloc());
     assert!(rt; is_refused(&reserved_for_characters(&mut v, usize::MAX)));
     assert!(rt; is_refused(&reserved_for_characters(&mut v, usize::MAX / 4)));
@@ -73,7 +73,7 @@ fn texts_are_bytes(rt: HostRuntime) -> Result<(), Fail> {
     Ok(())
 }
 
-// The digits, one behind the other; and how many the walk says are left, before and behind.
+// The digits, one after the other; and how many the walk says are left, before and after.
 fn digits(v: &TryVec<u64>) -> (u64, bool) {
     let mut walk = v.iter();
     let at_first = walk.size_hint() == (v.len(), Some(v.len()));

@@ -96,9 +96,9 @@ fn reservations_of_characters(rt: HostRuntime) {
     let too_many = is_refused(&reserved(&mut v, usize::MAX))
         && is_refused(&reserved(&mut v, usize::MAX / 4));
     let took_one = reserved(&mut v, 1).is_ok() && v.capacity() >= 1 && v.try_push('a').is_ok();
-    let past_the_end = is_overflow(&reserved(&mut v, usize::MAX));
+    let after_the_end = is_overflow(&reserved(&mut v, usize::MAX));
     let just_before = is_refused(&reserved(&mut v, usize::MAX - 1));
-    assert!(rt; took_none && too_many && took_one && past_the_end && just_before && v.len() == 1);
+    assert!(rt; took_none && too_many && took_one && after_the_end && just_before && v.len() == 1);
 }
 
 fn reserved_for_nothing(v: &mut Vec<()>, more: usize) -> Result<(), TryReserveError> {
@@ -114,6 +114,6 @@ fn reservations_of_nothing(rt: HostRuntime) {
     // More items than a vector of std's ever holds.
     let too_many = is_refused(&reserved_for_nothing(&mut v, usize::MAX));
     let took_one = v.try_push(()).is_ok();
-    let past_the_end = is_overflow(&reserved_for_nothing(&mut v, usize::MAX));
-    assert!(rt; took_some && took_many && too_many && took_one && past_the_end && v.len() == 1);
+    let after_the_end = is_overflow(&reserved_for_nothing(&mut v, usize::MAX));
+    assert!(rt; took_some && took_many && too_many && took_one && after_the_end && v.len() == 1);
 }

@@ -196,7 +196,7 @@ fn is_emptied(map: &BTreeMap<Key<'_>, u64>) -> bool {
         && map.iter().next_back().is_none()
 }
 
-// How many comparisons there are at most: none where either map is empty, one where their keys lie beyond ours, else one a pair.
+// How many comparisons there are at most: none where either map is empty, one where their keys lie after ours, else one a pair.
 fn most_comparisons(layout: Layout, a: u64, b: u64) -> u64 {
     if a == 0 || b == 0 {
         return 0;

@@ -57,8 +57,8 @@ fn gives_forward(map: &BTreeMap<u64, u64>, first: u64, end: u64) -> bool {
 
 fn gives_backward(map: &BTreeMap<u64, u64>, first: u64, end: u64) -> bool {
     let mut walk = map.iter();
-    for behind in first..end {
-        let place = end.wrapping_sub(1).wrapping_sub(behind.wrapping_sub(first));
+    for after in first..end {
+        let place = end.wrapping_sub(1).wrapping_sub(after.wrapping_sub(first));
         if !is_odd(walk.next_back(), place) {
             return false;
         }

@@ -97,7 +97,7 @@ fn has_three_levels<'a>(map: &Map<'a>, ledgers: [&'a Ledger; 2]) -> bool {
     comparisons_of(map, 81, ledgers) == 1 && comparisons_of(map, 151, ledgers) == 15
 }
 
-// Puts 151 behind ascending 1 to 150.
+// Puts 151 after ascending 1 to 150.
 fn inserts<'a>(alloc: Global, ledgers: [&'a Ledger; 2]) -> Fate {
     let ledger = ledgers[0];
     let all = numbers();

@@ -22,7 +22,7 @@ fn splits_new(alloc: Global, order: Order, n: u64, key: u64) -> Result<bool, Try
     Ok(splits(&mut map, n, key)? && has_odds(&map, 0, n))
 }
 
-// Whether the numbers are split at each key and in each gap, also before the first one and behind the last.
+// Whether the numbers are split at each key and in each gap, also before the first one and after the last.
 fn splits_everywhere(alloc: Global, order: Order, n: u64) -> Result<bool, TryReserveError> {
     for key in 0..n.saturating_mul(2).saturating_add(2) {
         if !splits_new(alloc, order, n, key)? {
@@ -85,7 +85,7 @@ fn every_split_of_pairs_that_came_in_other_orders(rt: HostRuntime) -> Result<(),
     Ok(())
 }
 
-// Whether the numbers are split at 34 keys, of which every other is there: around the first, behind the last, and in all parts.
+// Whether the numbers are split at 34 keys, of which every other is there: around the first, after the last, and in all parts.
 fn splits_here_and_there(alloc: Global, order: Order, n: u64) -> Result<bool, TryReserveError> {
     for part in 0..17 {
         let key = n.saturating_mul(part) / 16 * 2;

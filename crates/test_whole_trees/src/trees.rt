@@ -47,7 +47,7 @@ fn is_laid_out(node: &Node<u64, u64>, height: usize) -> bool {
     true
 }
 
-// The key behind the last one, if the keys of the tree follow one another from `start` on.
+// The key after the last one, if the keys of the tree follow one another from `start` on.
 fn run_end(node: &Node<u64, u64>, height: usize, start: u64) -> Option<u64> {
     let mut key = start;
     for i in 0..node.len() {
@@ -99,7 +99,7 @@ fn a_full_tree_of_three_levels_asks_for_its_nodes_alone(rt: HostRuntime) -> Resu
     Ok(())
 }
 
-// Whether the last key is this one behind all below it; none where it is 0.
+// Whether the last key is this one after all below it; none where it is 0.
 fn ends_before(tree: &GrowingBuilder<u64, u64>, key: u64) -> bool {
     match tree.last() {
         None => key == 0,
@@ -107,7 +107,7 @@ fn ends_before(tree: &GrowingBuilder<u64, u64>, key: u64) -> bool {
     }
 }
 
-// Puts the keys up to `end` one behind the other, each with itself.
+// Puts the keys up to `end` one after the other, each with itself.
 fn grows(tree: &mut GrowingBuilder<u64, u64>, end: u64) -> Result<bool, TryReserveError> {
     for key in 0..end {
         if !ends_before(tree, key) {
@@ -182,7 +182,7 @@ fn count_below(node: &Node<u64, u64>, key: u64) -> usize {
     node.len()
 }
 
-// Puts the way from the node to the key behind the path.
+// Puts the way from the node to the key after the path.
 fn find(node: &Node<u64, u64>, height: usize, key: u64, path: &mut Path) {
     let place = count_below(node, key);
     if path.len() < MAX_STEPS && place < 256 {

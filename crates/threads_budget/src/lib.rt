@@ -1,7 +1,7 @@
 //! A thread's part in a budget that several threads share: `tools/threads` starts the threads, as no crate here may.
 #![tactic(auto)]
 
-use fc_shared_budget::SharedBudget;
+use fc_budget::SharedBudget;
 use std::alloc::Global;
 
 // Waits for the other threads: the driver's allocator refuses a request of so many bytes, and waits.

@@ -5,7 +5,7 @@ ghost use Rattle.fc_base.specs.CopiedLists.{IsExtended};
 use crate::handle::Handle;
 use crate::try_reserve_error::TryReserveError;
 
-/// Puts the sources behind the items, for which there is room, in one move.
+/// Puts the sources after the items, for which there is room, in one move.
 pub(crate) fn copy_all<T: Copy, A: Handle>(
     sources: &[T],
     copies: &mut Vec<T, A>,

@@ -51,7 +51,7 @@ struct Session<A: Handle> {
 ///
 /// `Ok(Finished)`: the source was read to its end, and all replies are written and flushed. `Ok(NotACommand(n))`: the replies of
 /// the lines before line n are written, then the line `line n: not a command`, and all is flushed; how much of the source was
-/// read past line n is open.
+/// read after line n is open.
 ///
 /// # Errors
 /// The replies of complete lines before the error are written. `Memory`: room for a line and a reply was refused, which is taken at

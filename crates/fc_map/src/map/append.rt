@@ -31,7 +31,7 @@ impl<K: Ord + Drop, V: Drop, A: Handle> BTreeMap<K, V, A> {
     }
 
     /// `append`, with its comparisons added to the count: at most as many as there are pairs in both, none where one of the two is
-    /// empty, just one where all keys of `other` lie beyond ours, and else at least one where it is not refused.
+    /// empty, just one where all keys of `other` lie after ours, and else at least one where it is not refused.
     ///
     /// # Errors
     /// As `append`.
@@ -52,7 +52,7 @@ impl<K: Ord + Drop, V: Drop, A: Handle> BTreeMap<K, V, A> {
         ensures none { (entries self.old ≡ []) ⊎ (entries other.old ≡ []) → count.new.comparisons ≡ count.old.comparisons }
         ensures grown { count.old.comparisons ≤ count.new.comparisons }
         ensures counted { IfOk result (λ _. 0 < length (entries self.old) → 0 < length (entries other.old) → count.old.comparisons < count.new.comparisons) }
-        ensures beyond { 0 < length (entries self.old) → 0 < length (entries other.old) → length (entries self.old) + length (entries other.old) ≤ usize.MAX → IsAscending K.cmp (entries self.old ++ entries other.old) → count.new.comparisons ≡ count.old.comparisons + 1 }
+        ensures after { 0 < length (entries self.old) → 0 < length (entries other.old) → length (entries self.old) + length (entries other.old) ≤ usize.MAX → IsAscending K.cmp (entries self.old ++ entries other.old) → count.new.comparisons ≡ count.old.comparisons + 1 }
     {
         self.len = try_append(
             self.alloc,

@@ -4,12 +4,12 @@ ghost use Rattle.fc_base.specs.Ascending.{IsAscending};
 ghost use Rattle.fc_base.specs.Halves.{not_below};
 ghost use Rattle.fc_base.specs.Parts.{above, below};
 ghost use Rattle.fc_tree_search.specs.Neighbours.{not_above};
-ghost use Rattle.fc_tree_beside.specs.Beside.{IsNextIn, IsLastIn};
+ghost use Rattle.fc_tree_cursor.specs.Beside.{IsNextIn, IsLastIn};
 ghost use Rattle.fc_map.specs.Entries.{entries, passed_in, IsSoundMap};
 
 use super::BTreeMap;
 use fc_base::{Count, Handle, Query};
-use fc_tree_beside::beside::{find_after, find_before, find_from, find_to};
+use fc_tree_cursor::beside::{find_after, find_before, find_from, find_to};
 use fc_tree_node::path::Path;
 
 impl<K: Ord, V, A: Handle> BTreeMap<K, V, A> {

@@ -13,6 +13,7 @@ ghost use Rattle.fc_map.specs.BulkInsert.{IsBulkInsert};
 use super::{BTreeMap, for_sets};
 use fc_base::{Count, Handle, TryReserveError};
 use fc_tree_build::growing::GrowingBuilder;
+use fc_tree_build::ordered::push_after;
 use std::alloc::Global;
 use std::marker::Model;
 use std::mem;
@@ -61,11 +62,11 @@ impl<K: Ord + Drop, V: Drop, A: Handle> BulkInsert<K, V, A> {
         ensures new_key { IfErr result (λ _. at K.cmp self.old key ≡ None) }
         ensures error { IfErr result (λ e. MayGrowRefuse (length self.old) e) }
     {
-        let Some((key, value)) = self.tree.put_if_behind((key, value)) else {
+        let Some((key, value)) = self.tree.put_if_after((key, value)) else {
             return Ok(());
         };
-        if is_behind(&self.tree, &self.map, &key) {
-            return push_behind(&mut self.tree, key, value);
+        if is_after(&self.tree, &self.map, &key) {
+            return push_after(&mut self.tree, key, value);
         }
         if self.map.is_empty() {
             close(&mut self.tree, &mut self.map);
@@ -75,11 +76,11 @@ impl<K: Ord + Drop, V: Drop, A: Handle> BulkInsert<K, V, A> {
 
     /// Puts the pair after all others where that takes no memory and one comparison; else it comes back.
     #[inline(always)]
-    pub fn put_if_behind(&mut self, pair: (K, V)) -> Option<(K, V)>
+    pub fn put_if_after(&mut self, pair: (K, V)) -> Option<(K, V)>
         ensures put { result ≡ None → self.new ≡ put K.cmp self.old pair.0 pair.1 }
         ensures back { IfSome result (λ back. (back ≡ pair) × (self.new ≡ self.old)) }
     {
-        self.tree.put_if_behind(pair)
+        self.tree.put_if_after(pair)
     }
 
     /// Puts all items in, in turn, by a merge.
@@ -117,42 +118,18 @@ impl<K: Ord + Drop, V: Drop, A: Handle> BulkInsert<K, V, A> {
 }
 
 // Whether the map has no pair, and the key lies after all keys of the tree: it is compared with the last one.
-fn is_behind<K: Ord, V, A: Handle>(
+fn is_after<K: Ord, V, A: Handle>(
     tree: &GrowingBuilder<K, V, A>,
     map: &BTreeMap<K, V, A>,
     key: &K,
 ) -> bool
     requires { IsBulkInsert K.cmp tree.now.pairs (entries map.now) }
-    ensures behind { IsTrue result → AllByRecursion (λ e. K.cmp e.0 key.now ≡ Less) tree.now.pairs }
+    ensures after { IsTrue result → AllByRecursion (λ e. K.cmp e.0 key.now ≡ Less) tree.now.pairs }
     ensures open { IsTrue result → entries map.now ≡ [] }
 {
     match tree.last() {
         None => map.is_empty(),
         Some(last) => last.0.cmp(key).is_lt(),
-    }
-}
-
-// Puts a pair after all others. It is not inlined, since the pairs that a leaf has room for would then pay for its locals.
-#[inline(never)]
-fn push_behind<K: Ord + Drop, V: Drop, A: Handle>(
-    tree: &mut GrowingBuilder<K, V, A>,
-    key: K,
-    value: V,
-) -> Result<(), TryReserveError>
-    requires ascending { IsAscending K.cmp tree.old.pairs }
-    requires behind { AllByRecursion (λ e. K.cmp e.0 key ≡ Less) tree.old.pairs }
-    ensures put { IfOk result (λ _. tree.new.pairs ≡ put K.cmp tree.old.pairs key value) }
-    ensures ascending { IsAscending K.cmp tree.new.pairs }
-    ensures unchanged { IfErr result (λ _. tree.new ≡ tree.old) }
-    ensures new_key { IfErr result (λ _. at K.cmp tree.old.pairs key ≡ None) }
-    ensures error { IfErr result (λ e. MayGrowRefuse (length tree.old.pairs) e) }
-{
-    if tree.len() == usize::MAX {
-        return Err(TryReserveError::CapacityOverflow);
-    }
-    match tree.push((key, value)) {
-        Ok(()) => Ok(()),
-        Err((_pair, error)) => Err(error),
     }
 }
 

@@ -74,7 +74,7 @@ impl<K: Ord + Drop, V: Drop, A: Handle> BulkLoad<K, V, A> {
                 (key, value),
             );
         }
-        let Some((key, value)) = self.placed.put_if_behind((key, value)) else {
+        let Some((key, value)) = self.placed.put_if_after((key, value)) else {
             return Ok(());
         };
         put_singly(&mut self.placed, &mut self.single, key, value)

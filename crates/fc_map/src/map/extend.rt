@@ -53,7 +53,7 @@ impl<K: Ord + Drop, V: Drop, A: Handle> BTreeMap<K, V, A> {
         Ok(())
     }
 
-    // Puts the value at the key, as `put`; as long as each key ascends, behind all others, by one comparison.
+    // Puts the value at the key, as `put`; as long as each key ascends, after all others, by one comparison.
     pub(crate) fn put_next(
         &mut self,
         ascends: &mut bool,

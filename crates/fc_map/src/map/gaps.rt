@@ -1,7 +1,7 @@
 //! The ends of writing walks: gaps between two pairs, as paths to gaps of leaves, and steps from one to the next.
 //!
 //! A gap stays one where values are written, so a writing walk keeps its ends as such paths. Beside the one at its front it counts the
-//! pairs of the leaf that it went past: within a leaf a step on changes that number alone, and only at a leaf's end it looks at the tree.
+//! pairs of the leaf that it went over: within a leaf a step on changes that number alone, and only at a leaf's end it looks at the tree.
 ghost use Rattle.std.specs.Prelude.{◌≡◌, ◌+◌, ◌<◌, ◌≤◌, ◌↔◌, List, ℕ, length, take, drop, IsTrue};
 ghost use Rattle.fc_tree_node.specs.TreePlace.{before_pair_in, before_gap_in, IsPlaceIn};
 ghost use Rattle.fc_tree_cursor.specs.Leaf.{advanced};
@@ -16,7 +16,7 @@ use fc_base::Handle;
 use fc_tree_cursor::ends::{first_gap_in, last_gap_in};
 use fc_tree_cursor::gaps::{push_gap_before, steps_to_previous};
 use fc_tree_cursor::key_range::KeyRange;
-use fc_tree_cursor::leaf::{advance, go_to_previous, pairs_after, pass_next};
+use fc_tree_cursor::leaf::{advance, next_back_in_leaf, next_place, pairs_after};
 use fc_tree_for_each::tree::visit_tree;
 use fc_tree_node::node::Node;
 use fc_tree_node::path::Path;
@@ -85,7 +85,7 @@ impl<K: Ord, V, A: Handle> BTreeMap<K, V, A> {
         }
     }
 
-    // Goes on past the pair after a gap, and answers where that pair is: so many steps of the path lead to its node, and the place in
+    // Goes on over the pair after a gap, and answers where that pair is: so many steps of the path lead to its node, and the place in
     // it. The gap lies `gone` pairs of its leaf after where its path leads, and the leaf has pairs up to `full` after there: within a
     // leaf the one number alone changes.
     #[inline]
@@ -160,13 +160,13 @@ impl<K: Ord, V, A: Handle> BTreeMap<K, V, A> {
         };
         let root: &Node<K, V, A> = root;
         advance(path, *gone);
-        let (last, place, run) = pass_next(root, path);
+        let (last, place, run) = next_place(root, path);
         *gone = 0;
         *full = run;
         (last, place)
     }
 
-    // Goes back past the pair before a gap, and answers that pair's place.
+    // Goes back over the pair before a gap, and answers that pair's place.
     #[inline]
     pub(crate) fn step_to_previous(&self, gap: &mut Path) -> Path
         requires gap { IsGapIn self.now gap.old }
@@ -184,7 +184,7 @@ impl<K: Ord, V, A: Handle> BTreeMap<K, V, A> {
         }
         // Read for the proof alone: it shows that the tree is sound.
         let _ = &self.root;
-        go_to_previous(gap);
+        next_back_in_leaf(gap);
         *gap
     }
 

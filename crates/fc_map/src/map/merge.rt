@@ -7,7 +7,7 @@ ghost use Rattle.fc_map.specs.Entries.{entries, IsSoundMap};
 
 use super::BTreeMap;
 use fc_base::{Handle, TryReserveError};
-use fc_tree_merge::sorted::try_merge;
+use fc_tree_append::sorted::try_merge;
 
 // Into a map of more than so many times as many pairs, items go one by one, by reserved nodes: a merge would make all nodes anew for few items.
 const SPARSE: usize = 64;

@@ -4,7 +4,7 @@ ghost use Rattle.std.specs.Iterator.{YieldsFirstRef, UpTo, at_most, item_count};
 ghost use Rattle.std.specs.Iterator.SizeHint.{IsWithinCount};
 ghost use Rattle.fc_set.specs.Items.{items, AreAscending};
 ghost use Rattle.fc_set.specs.Operations.{difference};
-ghost use Rattle.fc_set.specs.Sides.{Filtering, begin_filtering, filtered_past, GivesApart, GivesLookedUp};
+ghost use Rattle.fc_set.specs.Sides.{Filtering, begin_filtering, filtered_after, GivesApart, GivesLookedUp};
 
 use super::peeked::Peeked;
 use super::{BTreeSet, Iter, order_of};
@@ -60,7 +60,7 @@ impl<'a, T: Ord, A: Handle> Difference<'a, T, A> {
     /// of both sides. Upstream: `Difference::next`.
     pub fn next(&mut self) -> Option<&'a T>
         ensures steps { YieldsFirstRef (λ w. difference T.cmp w.left w.right) self.old result self.new }
-        ensures past { MatchOption result (self.new.left ≡ []) (λ x. self.new ≡ filtered_past T.cmp self.old x.now) }
+        ensures after { MatchOption result (self.new.left ≡ []) (λ x. self.new ≡ filtered_after T.cmp self.old x.now) }
     {
         match &mut self.theirs {
             Some(theirs) => next_apart(&mut self.ours, theirs),

@@ -4,7 +4,7 @@ ghost use Rattle.std.specs.Iterator.{YieldsFirstRef, UpTo, at_most, item_count};
 ghost use Rattle.std.specs.Iterator.SizeHint.{IsWithinCount};
 ghost use Rattle.fc_set.specs.Items.{items, AreAscending};
 ghost use Rattle.fc_set.specs.Operations.{common, intersection};
-ghost use Rattle.fc_set.specs.Sides.{Filtering, begin_filtering, begin_with_shorter, untaken, filtered_past, GivesCommon, GivesLookedUp};
+ghost use Rattle.fc_set.specs.Sides.{Filtering, begin_filtering, begin_with_shorter, untaken, filtered_after, GivesCommon, GivesLookedUp};
 
 use super::{BTreeSet, Iter, order_of};
 use fc_base::Handle;
@@ -60,7 +60,7 @@ impl<'a, T: Ord, A: Handle> Intersection<'a, T, A> {
     pub fn next(&mut self) -> Option<&'a T>
         ensures steps { YieldsFirstRef (λ w. common T.cmp w.left w.right) self.old result self.new }
         ensures ended { IfNone result ((self.new.left ≡ []) ⊎ (self.new.right ≡ [])) }
-        ensures past { MatchOption result (self.new.left ≡ (if self.old.looks_up then [] else untaken T.cmp self.old.left self.old.right)) (λ x. self.new ≡ filtered_past T.cmp self.old x.now) }
+        ensures after { MatchOption result (self.new.left ≡ (if self.old.looks_up then [] else untaken T.cmp self.old.left self.old.right)) (λ x. self.new ≡ filtered_after T.cmp self.old x.now) }
     {
         match &mut self.theirs {
             Some(theirs) => next_common(&mut self.ours, theirs),

@@ -41,7 +41,7 @@ impl<'a, T, A: Handle> Peeked<'a, T, A> {
         self.first
     }
 
-    // Goes past the item that comes next.
+    // Goes over the item that comes next.
     pub(crate) fn step(&mut self)
         ensures { self.new ≡ drop 1 self.old }
     {

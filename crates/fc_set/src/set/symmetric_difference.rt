@@ -4,7 +4,7 @@ ghost use Rattle.std.specs.Iterator.{YieldsFirstRef, UpTo, at_most, item_count};
 ghost use Rattle.std.specs.Iterator.SizeHint.{IsWithinCount};
 ghost use Rattle.fc_set.specs.Items.{items, AreAscending};
 ghost use Rattle.fc_set.specs.Operations.{symmetric_difference};
-ghost use Rattle.fc_set.specs.Sides.{Sides, past_item, sum_of_lengths};
+ghost use Rattle.fc_set.specs.Sides.{Sides, after_item, sum_of_lengths};
 
 use super::BTreeSet;
 use super::merge::Merge;
@@ -47,7 +47,7 @@ impl<'a, T: Ord, A: Handle> SymmetricDifference<'a, T, A> {
     /// of both sides. Upstream: `SymmetricDifference::next`.
     pub fn next(&mut self) -> Option<&'a T>
         ensures steps { YieldsFirstRef (λ w. symmetric_difference T.cmp w.left w.right) self.old result self.new }
-        ensures past { MatchOption result ((self.new.left ≡ []) × (self.new.right ≡ [])) (λ x. self.new ≡ past_item T.cmp self.old x.now) }
+        ensures after { MatchOption result ((self.new.left ≡ []) × (self.new.right ≡ [])) (λ x. self.new ≡ after_item T.cmp self.old x.now) }
     {
         'pairs: loop {
             let (ours, theirs) = self.sides.next();

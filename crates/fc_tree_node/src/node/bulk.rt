@@ -164,7 +164,7 @@ impl<K: Drop, V: Drop, A: Handle> Node<K, V, A> {
 }
 
 // The last `n` items of the left list go to the right one through the item at `index` of their parent's list: the first
-// of them goes up, and the parent's comes down in front of those that were in the right list.
+// of them goes up, and the parent's comes down before those that were in the right list.
 fn share_back<T: Drop, A: Handle>(
     left: &mut Slots<T, CAPACITY, A>,
     parent: &mut Slots<T, CAPACITY, A>,

@@ -1,7 +1,7 @@
 //! Insertion into one node, and the split of a full one.
 ghost use Rattle.std.specs.Prelude.{◌≡◌, ◌+◌, ◌-◌, ◌<◌, ◌≤◌, [], ◌∷◌, ◌++◌, length, insert};
 ghost use Rattle.fc_base.specs.Sizes.{capacity, most_children};
-ghost use Rattle.fc_tree_node.specs.Node.{own_pairs, children_of, child_at, pairs_of, IsLeaf, IsInner, IsBlankLeaf, IsBlankInner};
+ghost use Rattle.fc_tree_node.specs.Node.{own_pairs, children_of, child_at, pairs_of, IsLeaf, IsInner, IsEmptyLeaf, IsEmptyInner};
 ghost use Rattle.fc_tree_node.specs.Path.{before_gap, after_gap};
 ghost use Rattle.fc_tree_node.specs.Split.{middle_place, left_length, split_moves};
 
@@ -27,7 +27,7 @@ impl<K: Drop, V: Drop, A: Handle> Node<K, V, A> {
 
     /// Puts the first child into an inner node that holds nothing yet. It takes no memory.
     pub fn adopt(&mut self, child: Node<K, V, A>)
-        requires blank { IsBlankInner self.old }
+        requires empty { IsEmptyInner self.old }
         ensures pairs { own_pairs self.new ≡ [] }
         ensures children { children_of self.new ≡ child ∷ [] }
         ensures inner { IsInner self.new }
@@ -77,7 +77,7 @@ impl<K: Drop, V: Drop, A: Handle> Node<K, V, A> {
         requires full { length (own_pairs self.old) ≡ capacity }
         requires in_bounds { index ≤ capacity }
         requires leaf { IsLeaf self.old }
-        requires blank { IsBlankLeaf right }
+        requires empty { IsEmptyLeaf right }
         ensures pairs { own_pairs self.new ++ result.0 ∷ own_pairs result.1 ≡ insert (own_pairs self.old) index pair }
         ensures left { length (own_pairs self.new) ≡ left_length index }
         ensures right { length (own_pairs result.1) ≡ capacity - left_length index }
@@ -105,7 +105,7 @@ impl<K: Drop, V: Drop, A: Handle> Node<K, V, A> {
         requires full { length (own_pairs self.old) ≡ capacity }
         requires in_bounds { index ≤ capacity }
         requires inner { IsInner self.old }
-        requires blank { IsBlankInner right }
+        requires empty { IsEmptyInner right }
         ensures pairs { own_pairs self.new ++ result.0 ∷ own_pairs result.1 ≡ insert (own_pairs self.old) index pair }
         ensures children { children_of self.new ++ children_of result.1 ≡ insert (children_of self.old) (index + 1) child }
         ensures left { length (own_pairs self.new) ≡ left_length index }
@@ -143,7 +143,7 @@ fn split_children<T: Drop, A: Handle>(
     keep: usize,
 )
     requires full { length left.old ≡ most_children }
-    requires blank { right.old ≡ [] }
+    requires empty { right.old ≡ [] }
     requires in_bounds { index ≤ most_children }
     requires keep { (1 ≤ keep) × (keep ≤ most_children) }
     ensures items { left.new ++ right.new ≡ insert left.old index child }
@@ -168,7 +168,7 @@ fn split_pairs<T: Drop, A: Handle>(
     count: &mut Count,
 ) -> T
     requires full { length left.old ≡ capacity }
-    requires blank { right.old ≡ [] }
+    requires empty { right.old ≡ [] }
     requires in_bounds { index ≤ capacity }
     ensures items { left.new ++ result ∷ right.new ≡ insert left.old index item }
     ensures left { length left.new ≡ left_length index }
@@ -202,7 +202,7 @@ fn middle_for(index: usize) -> usize
 }
 
 /// How many pairs stay in a full node that is split for a new pair at `index`: those before the middle, with the new one
-/// where it is in front of the middle.
+/// where it is before the middle.
 #[inline]
 pub fn left_len(index: usize) -> usize
     ensures { result ≡ left_length index }

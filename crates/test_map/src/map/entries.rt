@@ -1,6 +1,6 @@
 //! Entries of numbers, by keys that count their comparisons, and under refused memory.
 use super::*;
-use crate::numbers::has;
+use crate::numbers::{has, multiples};
 use fc_map::map::Entry;
 use std::cell::Cell;
 use test_values::{CountingKey, add_one};
@@ -106,6 +106,21 @@ fn look_up<'a>(map: &Counted<'a>, key: &CountingKey<'a>) -> (u64, bool) {
     (key.comparisons.replace(0), is_there)
 }
 
+// How many comparisons the search for the key's entry made, whether it was there, and the value that the entry put in or took out.
+fn enter<'a>(
+    map: &mut Counted<'a>,
+    key: CountingKey<'a>,
+) -> Result<(u64, bool, u64), TryReserveError> {
+    match map.try_entry(key)? {
+        Entry::Vacant(entry) => {
+            let made = key.comparisons.get();
+            let value = *entry.try_insert(key.number).map_err(|back| back.2)?;
+            Ok((made, false, value))
+        }
+        Entry::Occupied(entry) => Ok((key.comparisons.get(), true, entry.remove())),
+    }
+}
+
 // The search makes the comparisons of a look-up; the insertion or the removal that follows makes none.
 #[test]
 fn an_entry_compares_in_its_search_alone(rt: HostRuntime) -> Result<(), Fail> {
@@ -117,18 +132,10 @@ fn an_entry_compares_in_its_search_alone(rt: HostRuntime) -> Result<(), Fail> {
             comparisons: &comparisons,
         };
         let (expected, is_there) = look_up(&map, &key);
-        let entry = map.try_entry(key)?;
-        assert!(rt; comparisons.get() == expected);
-        match entry {
-            Entry::Vacant(entry) => {
-                let value = *entry.try_insert(number).map_err(|back| back.2)?;
-                assert!(rt; !is_there && value == number);
-            }
-            Entry::Occupied(entry) => {
-                let value = entry.remove();
-                assert!(rt; is_there && value == number);
-            }
-        }
+        let (made, was_there, value) = enter(&mut map, key)?;
+        assert!(rt; made == expected);
+        assert!(rt; was_there == is_there);
+        assert!(rt; value == number);
         assert!(rt; comparisons.get() == expected);
     }
     Ok(())
@@ -146,7 +153,7 @@ fn take_by_numbers<'a>(map: &mut Counted<'a>) {
     }
 }
 
-// What searches for no key compares none; nor does an insertion that is made ready, behind the search for its entry.
+// What searches for no key compares none; nor does an insertion that is made ready, after the search for its entry.
 #[test]
 fn what_searches_for_no_key_compares_none(rt: HostRuntime) -> Result<(), Fail> {
     let comparisons = Cell::new(0);
@@ -229,7 +236,7 @@ fn has_tracked_up_to<'a>(map: &Tracked<'a>, last: usize, sought: &'a Tally) -> b
     map.len() == last
 }
 
-// Whether the entry behind the last number is filled, or refused and its key and value came back, and all pairs stay. Where there is no memory for
+// Whether the entry after the last number is filled, or refused and its key and value came back, and all pairs stay. Where there is no memory for
 // the map nothing is shown.
 fn leaves_every_pair(alloc: Global, last: usize) -> Result<bool, TryReserveError> {
     let (kept, new, sought) = (no_drops(), no_drops(), no_drops());

@@ -1,11 +1,27 @@
 //! What a call of the map drops of what it was given. No clause speaks of that: a body that leaves a value to `mem::forget` is proved too.
 use super::*;
 
-fn one_pair<'a>(alloc: Global, kept: &'a Drops) -> Result<Tracked<'a>, TryReserveError> {
-    let mut map = BTreeMap::new(alloc);
+fn put_one<'a>(map: &mut Tracked<'a>, kept: &'a Drops) -> Result<(), TryReserveError> {
     let (key, value) = pair(1, kept);
     map.try_insert(key, value)?;
+    Ok(())
+}
+
+fn one_pair<'a>(alloc: Global, kept: &'a Drops) -> Result<Tracked<'a>, TryReserveError> {
+    let mut map = BTreeMap::new(alloc);
+    put_one(&mut map, kept)?;
     Ok(map)
+}
+
+// Whether the old value is answered, and the key that was put in is dropped.
+fn answers_its_old_value<'a>(
+    map: &mut Tracked<'a>,
+    kept: &Drops,
+    given: &'a Drops,
+) -> Result<bool, TryReserveError> {
+    let (key, value) = pair(1, given);
+    let old = map.try_insert(key, value)?;
+    Ok(old.is_some() && were_dropped(given, 1, 0) && were_dropped(kept, 0, 0))
 }
 
 // The key that is there stays, and its old value is answered.
@@ -15,10 +31,7 @@ fn an_insertion_drops_its_key<'a>(
     given: &'a Drops,
 ) -> Result<bool, TryReserveError> {
     let mut map = one_pair(alloc, kept)?;
-    let (key, value) = pair(1, given);
-    let old = map.try_insert(key, value)?;
-    let is_right = old.is_some() && were_dropped(given, 1, 0) && were_dropped(kept, 0, 0);
-    drop(old);
+    let is_right = answers_its_old_value(&mut map, kept, given)?;
     drop(map);
     Ok(is_right && were_dropped(given, 1, 1) && were_dropped(kept, 1, 1))
 }
@@ -59,6 +72,16 @@ fn an_occupied_entry_drops_its_closure<'a>(
     Ok(were_dropped(given, 1, 1) && were_dropped(kept, 0, 0))
 }
 
+fn two_pairs<'a>(
+    alloc: Global,
+    given: &'a Drops,
+) -> Result<Vec<(Token<'a>, Token<'a>)>, TryReserveError> {
+    let mut items = Vec::new(alloc);
+    items.push(pair(1, given))?;
+    items.push(pair(2, given))?;
+    Ok(items)
+}
+
 // Of two equal keys the old one stays, and the old value goes.
 fn an_extension_drops_old_values<'a>(
     alloc: Global,
@@ -66,27 +89,46 @@ fn an_extension_drops_old_values<'a>(
     given: &'a Drops,
 ) -> Result<bool, TryReserveError> {
     let mut map = one_pair(alloc, kept)?;
-    let mut items = Vec::new(alloc);
-    items.push(pair(1, given))?;
-    items.push(pair(2, given))?;
-    map.try_extend(items)?;
+    map.try_extend(two_pairs(alloc, given)?)?;
     Ok(were_dropped(given, 1, 0) && were_dropped(kept, 0, 1))
 }
 
-fn append<'a>(map: &mut Tracked<'a>, other: &mut Tracked<'a>) -> Result<(), TryReserveError> {
-    map.append(other)
+// Of two equal keys that of the other map stays, with its value.
+fn takes_the_others_pair<'a>(
+    map: &mut Tracked<'a>,
+    other: &mut Tracked<'a>,
+    kept: &'a Drops,
+    given: &'a Drops,
+) -> Result<bool, TryReserveError> {
+    put_one(map, kept)?;
+    put_one(other, given)?;
+    map.append(other)?;
+    Ok(were_dropped(given, 0, 0) && were_dropped(kept, 1, 1))
 }
 
-// Of two equal keys that of the other map stays, with its value.
 fn an_append_drops_our_pair<'a>(
     alloc: Global,
     kept: &'a Drops,
     given: &'a Drops,
 ) -> Result<bool, TryReserveError> {
+    let mut map = BTreeMap::new(alloc);
+    let mut other = BTreeMap::new(alloc);
+    takes_the_others_pair(&mut map, &mut other, kept, given)
+}
+
+fn is_cleared<'a>(alloc: Global, kept: &'a Drops) -> Result<bool, TryReserveError> {
     let mut map = one_pair(alloc, kept)?;
-    let mut other = one_pair(alloc, given)?;
-    append(&mut map, &mut other)?;
-    Ok(were_dropped(given, 0, 0) && were_dropped(kept, 1, 1))
+    map.clear();
+    Ok(were_dropped(kept, 1, 1))
+}
+
+fn is_walked_over<'a>(alloc: Global, given: &'a Drops) -> Result<bool, TryReserveError> {
+    let mut walk = one_pair(alloc, given)?.into_iter();
+    let first = walk.next();
+    let is_kept = first.is_some() && were_dropped(given, 0, 0);
+    drop(walk);
+    drop(first);
+    Ok(is_kept && were_dropped(given, 1, 1))
 }
 
 // A map that is emptied, or that a walk of its pairs leaves, drops them.
@@ -95,15 +137,7 @@ fn each_pair_goes_with_its_map<'a>(
     kept: &'a Drops,
     given: &'a Drops,
 ) -> Result<bool, TryReserveError> {
-    let mut map = one_pair(alloc, kept)?;
-    map.clear();
-    let is_cleared = were_dropped(kept, 1, 1);
-    let mut walk = one_pair(alloc, given)?.into_iter();
-    let first = walk.next();
-    let is_kept = first.is_some() && were_dropped(given, 0, 0);
-    drop(walk);
-    drop(first);
-    Ok(is_cleared && is_kept && were_dropped(given, 1, 1))
+    Ok(is_cleared(alloc, kept)? && is_walked_over(alloc, given)?)
 }
 
 #[test]

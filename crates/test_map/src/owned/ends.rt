@@ -1,9 +1,10 @@
 //! Maps that are taken apart from their ends.
-use super::{FEW, MANY, Owners, is_number, is_pair, is_right, owners};
+use super::{FEW, MANY, Owners, is_number, is_pair, is_right, owners, put_owners};
 use fc_base::TryReserveError;
+use fc_map::map::{IntoKeys, IntoValues};
 use std::alloc::Global;
 
-// The number that is last once so many behind it are taken.
+// The number that is last once so many after it are taken.
 fn back_of(taken: u64) -> u64 {
     MANY.wrapping_sub(1).wrapping_sub(taken)
 }
@@ -40,7 +41,7 @@ fn an_owned_walk_that_is_dropped_half_way_gives_up_what_is_left(rt: HostRuntime)
 
 // Takes keys from the back in turns with one from the front, and drops the rest.
 fn gives_keys(alloc: Global, turns: u64) -> Result<bool, TryReserveError> {
-    let mut keys = owners(alloc, 0, MANY, 1)?.into_keys();
+    let mut keys = IntoKeys::of(owners(alloc, 0, MANY, 1)?.into_iter());
     for turn in 0..turns {
         let is_front = is_number(keys.next(), turn);
         if !is_front || !is_number(keys.next_back(), back_of(turn)) {
@@ -51,7 +52,7 @@ fn gives_keys(alloc: Global, turns: u64) -> Result<bool, TryReserveError> {
 }
 
 fn gives_values(alloc: Global, turns: u64) -> Result<bool, TryReserveError> {
-    let mut values = owners(alloc, 0, MANY, 1)?.into_values();
+    let mut values = IntoValues::of(owners(alloc, 0, MANY, 1)?.into_iter());
     for turn in 0..turns {
         let is_back = is_number(values.next_back(), back_of(turn));
         if !is_back || !is_number(values.next(), turn) {
@@ -125,13 +126,23 @@ fn entries_at_the_ends_give_up_the_keys_of_the_pairs_they_take(rt: HostRuntime) 
 }
 
 // A cleared map takes pairs again.
-fn is_cleared(alloc: Global) -> Result<bool, TryReserveError> {
-    let mut map = owners(alloc, 0, MANY, 1)?;
+fn takes_again(
+    alloc: Global,
+    map: &mut Owners,
+    other: &mut Owners,
+) -> Result<bool, TryReserveError> {
+    put_owners(alloc, map, 0, MANY, 1)?;
     map.clear();
     let is_empty = map.is_empty();
-    let mut other = owners(alloc, 0, FEW, 1)?;
-    map.append(&mut other)?;
+    put_owners(alloc, other, 0, FEW, 1)?;
+    map.append(other)?;
     Ok(is_empty && map.len() as u64 == FEW)
+}
+
+fn is_cleared(alloc: Global) -> Result<bool, TryReserveError> {
+    let mut map = Owners::new(alloc);
+    let mut other = Owners::new(alloc);
+    takes_again(alloc, &mut map, &mut other)
 }
 
 #[test]

@@ -1,8 +1,8 @@
 //! Pairs that are taken out of a map or stay there, by a rule or by their keys, and those that come back or are replaced.
-use super::{FEW, MANY, Owners, is_number, is_pair, is_right, owners, pair};
+use super::{FEW, MANY, Owners, is_number, is_pair, is_right, owners, pair, put_owners};
 use crate::sizes::CAPACITY;
 use fc_base::TryReserveError;
-use fc_map::map::{Entry, insert_both};
+use fc_map::map::{Entry, Reservation, insert_both};
 use std::alloc::Global;
 use test_values::Owned;
 
@@ -28,7 +28,7 @@ fn count_of(rule: Rule) -> usize {
     count
 }
 
-// None stays, one in ten, those in front, those behind, one in three, and one alone.
+// None stays, one in ten, those before, those after, one in three, and one alone.
 const RULES: [(u64, u64, u64); 6] = [
     (0, 0, 1),
     (0, MANY, 10),
@@ -52,9 +52,13 @@ fn retain_gives_up_each_pair_and_each_node_that_it_empties(rt: HostRuntime) {
 }
 
 // Each second one that is taken out goes into another map, and the others are dropped.
-fn extracts(alloc: Global, rule: Rule) -> Result<bool, TryReserveError> {
-    let mut map = owners(alloc, 0, MANY, 1)?;
-    let mut others = Owners::new(alloc);
+fn hands_on(
+    alloc: Global,
+    map: &mut Owners,
+    others: &mut Owners,
+    rule: Rule,
+) -> Result<bool, TryReserveError> {
+    put_owners(alloc, map, 0, MANY, 1)?;
     let mut is_refused = false;
     map.extract_if(
         |key, _value| !stays(rule, key.number),
@@ -68,6 +72,12 @@ fn extracts(alloc: Global, rule: Rule) -> Result<bool, TryReserveError> {
         is_refused
             || map.len() == count_of(rule) && map.len().wrapping_add(others.len()) <= MANY as usize,
     )
+}
+
+fn extracts(alloc: Global, rule: Rule) -> Result<bool, TryReserveError> {
+    let mut map = Owners::new(alloc);
+    let mut others = Owners::new(alloc);
+    hands_on(alloc, &mut map, &mut others, rule)
 }
 
 #[test]
@@ -158,7 +168,7 @@ fn enters(
     }
 }
 
-// On maps that are empty, of one full leaf, and whose last path is full: so none, one, two and three nodes are made ready behind the last number.
+// On maps that are empty, of one full leaf, and whose last path is full: so none, one, two and three nodes are made ready after the last number.
 fn enters_each(alloc: Global, len: u64) -> Result<bool, TryReserveError> {
     for turn in 0..5 {
         let mut map = owners(alloc, 0, len, 1)?;
@@ -178,12 +188,16 @@ fn a_ready_entry_that_is_dropped_or_gives_its_key_back_gives_up_each_node(rt: Ho
 }
 
 // Two maps of one full leaf, each with one more pair, which come back where one is refused.
-fn puts_both(alloc: Global) -> Result<bool, TryReserveError> {
-    let mut a = owners(alloc, 0, 15, 1)?;
-    let mut b = owners(alloc, 0, 15, 1)?;
+fn are_put_or_come_back(
+    alloc: Global,
+    a: &mut Owners,
+    b: &mut Owners,
+) -> Result<bool, TryReserveError> {
+    put_owners(alloc, a, 0, 15, 1)?;
+    put_owners(alloc, b, 0, 15, 1)?;
     let (first, value) = pair(alloc, 15)?;
     let (second, other) = pair(alloc, 15)?;
-    let is_new = match insert_both(&mut a, &mut b, first, value, second, other) {
+    let is_new = match insert_both(a, b, first, value, second, other) {
         Ok((old, other_old)) => old.is_none() && other_old.is_none(),
         Err(back) => back.0.number == 15
             && back.2.number == 15
@@ -193,24 +207,54 @@ fn puts_both(alloc: Global) -> Result<bool, TryReserveError> {
     Ok(is_new)
 }
 
+fn puts_both(alloc: Global) -> Result<bool, TryReserveError> {
+    let mut a = Owners::new(alloc);
+    let mut b = Owners::new(alloc);
+    are_put_or_come_back(alloc, &mut a, &mut b)
+}
+
 #[test]
 fn two_pairs_go_in_or_come_back_with_each_node_given_up(rt: HostRuntime) {
     assert!(rt; is_right(puts_both(rt.alloc())));
 }
 
-// At keys that are there both values are replaced, and both keys dropped; and so is the key of an insertion with room.
-fn replaces_both(alloc: Global) -> Result<bool, TryReserveError> {
-    let mut a = owners(alloc, 0, FEW, 1)?;
-    let mut b = owners(alloc, 0, FEW, 1)?;
-    let mut reservation = a.try_reserve_nodes(1)?;
+// At keys that are there both values are replaced, and both keys dropped.
+fn are_replaced(alloc: Global, a: &mut Owners, b: &mut Owners) -> Result<bool, TryReserveError> {
     let (first, value) = pair(alloc, 7)?;
     let (second, other) = pair(alloc, 8)?;
-    let (old, other_old) = insert_both(&mut a, &mut b, first, value, second, other)?;
+    let (old, other_old) = insert_both(a, b, first, value, second, other)?;
+    Ok(is_number(old, 7) && is_number(other_old, 8))
+}
+
+// The key of an insertion with room is dropped too where it is there.
+fn uses_no_place(
+    alloc: Global,
+    map: &mut Owners,
+    reservation: &mut Reservation<Owned, Owned>,
+) -> Result<bool, TryReserveError> {
     let (key, value) = pair(alloc, 9)?;
     let is_there = reservation.places() == 1
-        && a.len() < reservation.pairs()
-        && is_number(a.insert_reserved(&mut reservation, key, value), 9);
-    Ok(is_there && is_number(old, 7) && is_number(other_old, 8) && reservation.places() == 1)
+        && map.len() < reservation.pairs()
+        && is_number(map.insert_reserved(reservation, key, value), 9);
+    Ok(is_there && reservation.places() == 1)
+}
+
+fn all_are_replaced(
+    alloc: Global,
+    a: &mut Owners,
+    b: &mut Owners,
+) -> Result<bool, TryReserveError> {
+    put_owners(alloc, a, 0, FEW, 1)?;
+    put_owners(alloc, b, 0, FEW, 1)?;
+    let mut reservation = a.try_reserve_nodes(1)?;
+    let are_both = are_replaced(alloc, a, b)?;
+    Ok(are_both && uses_no_place(alloc, a, &mut reservation)?)
+}
+
+fn replaces_both(alloc: Global) -> Result<bool, TryReserveError> {
+    let mut a = Owners::new(alloc);
+    let mut b = Owners::new(alloc);
+    all_are_replaced(alloc, &mut a, &mut b)
 }
 
 #[test]

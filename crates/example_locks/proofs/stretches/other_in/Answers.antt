@@ -6,7 +6,7 @@ use Rattle.example_locks.proofs.stretches.other_in.Goals as goal
 pub walk-preserved : goal.walk-preserved
 walk-preserved c =
     let l = c.in-Some.ensures.some in (
-      omega (arith, l.ahead, c.walk.invariant.0),
+      omega (arith, l.before, c.walk.invariant.0),
       own_from (entries c.args.held.now) c.requires c.args.start c.args.end c.args.owner c.walk.below
           c.walk.invariant.1 (c.in-Some.at, (c.in-Some._end, c.in-Some.holder)) l c.if-holder-owner.false,
     )
@@ -19,7 +19,7 @@ returns-then-holder-owner-clause-some c =
       c.if-holder-owner.true,
       byte,
       omega arith,
-      omega (arith, l.ahead, c.walk.invariant.0, c.if-end-start.false),
+      omega (arith, l.before, c.walk.invariant.0, c.if-end-start.false),
       holds_from (entries c.args.held.now) c.requires c.args.start c.walk.below (c.in-Some.at, (c.in-Some._end, c.in-Some.holder)) l byte (omega arith)
           (omega (arith, l.reaches)),
     )

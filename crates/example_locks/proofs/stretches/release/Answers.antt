@@ -7,7 +7,7 @@ pub walk-preserved : goal.walk-preserved
 walk-preserved c =
     let l = c.in-Some.ensures.some in
     let i = c.walk.invariant in (
-      omega (arith, l.ahead, i.0),
+      omega (arith, l.before, i.0),
       released_more (entries c.args.held.now) (entries c.walk.held) (entries c.give_up.new.held) c.args.start c.args.end
           c.args.owner c.walk.below c.in-Some.last c.requires.stops c.requires.order i.0 i.1 l c.give_up.ensures.released,
       omega (arith, i.2, c.give_up.ensures.fewer),

@@ -34,7 +34,7 @@ returns-clause-apart g c =
     (apart_after c.args.own.now c.args.others.now (limit_at c.args.rank) c.args.quantity c.requires.apart) in
     subst (λ (s : Orders). AreApart s c.take_all-resting.new.self) (sym c.rest.ensures)
     (apart_put c.args.own.now c.take_all-resting.new.self c.args.rank c.args.next.now c.take_all-resting.result c.requires.numbered
-    (c.take_all-resting.ensures.beyond l) a)
+    (c.take_all-resting.ensures.above l) a)
 
 pub returns-clause-numbered : goal.returns-clause-numbered
 returns-clause-numbered g c = subst (λ (s : Orders). AreNumberedBelow (c.args.next.now + 1) s) (sym c.rest.ensures)

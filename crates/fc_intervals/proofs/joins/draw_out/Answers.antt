@@ -16,7 +16,7 @@ returns-in-Some g c =
       ended = inr (record {
         lead = pair.1;
         last = pair.0;
-        ahead = pair.3;
+        before = pair.3;
         is = ◌∙◌ {b = entries c.drop-entry.new.self.0} (search rules) (ap entries c.drop-entry.ensures ∙ pair.5 written
             ∙ ap (λ (x : Stretch g.row.K.Denot g.row.V.Denot). pair.1 ++ (
               pair.0.0,

@@ -1,8 +1,8 @@
 use Rattle.std.proofs.Common.{None, refl, sym, inr}
 use Rattle.std.proofs.lemmas.Result.{on_ok_weaker, IfErr-weaker}
 use Rattle.fc_map.specs.Entries.{entries}
-use Rattle.fc_intervals.proofs.Lengths.{full_ahead, refused_ahead}
-use Rattle.fc_intervals.proofs.Written.{free_behind, halves, put_free}
+use Rattle.fc_intervals.proofs.Lengths.{full_before, refused_before}
+use Rattle.fc_intervals.proofs.Written.{free_after, halves, put_free}
 use Rattle.fc_intervals.proofs.steps.put.Goals as goal
 
 pub returns-then-is_free-clause-apart : goal.returns-then-is_free-clause-apart
@@ -19,16 +19,16 @@ pub returns-then-is_free-clause-error : goal.returns-then-is_free-clause-error
 returns-then-is_free-clause-error g c =
     let s = entries c.args.map.now in
     let b = c.args.stretch.end in
-    let none = free_behind g.K.Ord.cmp g.met.K.Ord.total s c.requires.apart g.V.TryClone.same c.args.from b c.requires.range
+    let none = free_after g.K.Ord.cmp g.met.K.Ord.total s c.requires.apart g.V.TryClone.same c.args.from b c.requires.range
     (c.is_free.ensures c.if-is_free.true) in
-    IfErr-weaker c.put_in.result _ _ (λ e h. inr (refused_ahead g.K.Ord.cmp g.met.K.Ord.total s c.requires.apart g.V.TryClone.same b None none s
+    IfErr-weaker c.put_in.result _ _ (λ e h. inr (refused_before g.K.Ord.cmp g.met.K.Ord.total s c.requires.apart g.V.TryClone.same b None none s
     (sym (halves g.K.Ord.cmp g.met.K.Ord.total s c.requires.apart b)) c.args.from c.requires.range e.1 h)) c.put_in.ensures.error
 
 pub returns-then-is_free-clause-full : goal.returns-then-is_free-clause-full
 returns-then-is_free-clause-full g c =
     let s = entries c.args.map.now in
     let b = c.args.stretch.end in
-    let none = free_behind g.K.Ord.cmp g.met.K.Ord.total s c.requires.apart g.V.TryClone.same c.args.from b c.requires.range
+    let none = free_after g.K.Ord.cmp g.met.K.Ord.total s c.requires.apart g.V.TryClone.same c.args.from b c.requires.range
     (c.is_free.ensures c.if-is_free.true) in
-    full_ahead g.K.Ord.cmp g.met.K.Ord.total s c.requires.apart g.V.TryClone.same b None none s
+    full_before g.K.Ord.cmp g.met.K.Ord.total s c.requires.apart g.V.TryClone.same b None none s
     (sym (halves g.K.Ord.cmp g.met.K.Ord.total s c.requires.apart b)) c.args.from c.requires.range _ c.put_in.ensures.full

@@ -2,7 +2,7 @@ use Rattle.std.proofs.Common.{ap, inl, inr}
 use Rattle.std.specs.Ordering.{is_le}
 use Rattle.std.proofs.lemmas.Result.{on_ok_weaker, IfErr-weaker}
 use Rattle.fc_map.specs.Entries.{entries}
-use Rattle.fc_intervals.proofs.Lengths.{full_ahead, refused_ahead}
+use Rattle.fc_intervals.proofs.Lengths.{full_before, refused_before}
 use Rattle.fc_intervals.proofs.Parted.{front_parted, put_parted}
 use Rattle.fc_intervals.proofs.steps.put_across.Goals as goal
 
@@ -31,14 +31,14 @@ returns-in-Ok-clause-written g c =
 pub returns-in-Ok-clause-error : goal.returns-in-Ok-clause-error
 returns-in-Ok-clause-error g c =
     let parted = c.in-Ok.ensures.parted in
-    IfErr-weaker c.put_parted.result _ _ (λ e h. inr (refused_ahead g.K.Ord.cmp g.met.K.Ord.total (entries c.args.map.now) c.requires.apart
+    IfErr-weaker c.put_parted.result _ _ (λ e h. inr (refused_before g.K.Ord.cmp g.met.K.Ord.total (entries c.args.map.now) c.requires.apart
     g.V.TryClone.same c.args.stretch.end parted.rest parted.is_rest (entries c.part.new.map) parted.is c.args.from c.requires.range e.1 h))
     c.put_parted.ensures.error
 
 pub returns-in-Ok-clause-full : goal.returns-in-Ok-clause-full
 returns-in-Ok-clause-full g c =
     let parted = c.in-Ok.ensures.parted in
-    full_ahead g.K.Ord.cmp g.met.K.Ord.total (entries c.args.map.now) c.requires.apart g.V.TryClone.same c.args.stretch.end parted.rest parted.is_rest
+    full_before g.K.Ord.cmp g.met.K.Ord.total (entries c.args.map.now) c.requires.apart g.V.TryClone.same c.args.stretch.end parted.rest parted.is_rest
     (entries c.part.new.map) parted.is c.args.from c.requires.range _ c.put_parted.ensures.full
 
 pub returns-in-Err-clause-error : goal.returns-in-Err-clause-error

@@ -13,7 +13,7 @@ returns-in_err-write_item-clause-full c = grind (
   length-flat_map-take item_text c.args.items.now c.loop-item.item-index None c.loop-item-test.true,
 )
 
--- the text of the item is begun behind those before it
+-- the text of the item is begun after those before it
 pub returns-in_err-write_item-clause-begun : goal.returns-in_err-write_item-clause-begun
 returns-in_err-write_item-clause-begun c =
     let p = err_from_is_err_and c.from_residual.result c.from_residual.ensures.1 in

@@ -14,7 +14,7 @@ returns-in_err-write_step-clause-full c = grind (
   length-flat_map-take step_text c.args.steps.now c.loop-step.step-index None c.loop-step-test.true,
 )
 
--- the text of the step is begun behind those before it
+-- the text of the step is begun after those before it
 pub returns-in_err-write_step-clause-begun : goal.returns-in_err-write_step-clause-begun
 returns-in_err-write_step-clause-begun c =
     let p = err_from_is_err_and c.from_residual-in_err-write_step.result c.from_residual-in_err-write_step.ensures.1 in

@@ -5,7 +5,7 @@ ghost use Rattle.fc_base.specs.Ascending.{IsAscending};
 ghost use Rattle.fc_base.specs.Halves.{not_below};
 ghost use Rattle.fc_base.specs.Parts.{below, above};
 ghost use Rattle.fc_map.specs.Entries.{entries};
-ghost use Rattle.fc_map.specs.Entry.{Occupied, entry_map, entry_map_ref, rests_if_none_in, IsFirstBehind, IsLastAhead};
+ghost use Rattle.fc_map.specs.Entry.{Occupied, entry_map, entry_map_ref, rests_if_none_in, IsFirstAfter, IsLastBefore};
 ghost use Rattle.fc_tree_search.specs.Neighbours.{not_above};
 
 use super::super::BTreeMap;
@@ -22,7 +22,7 @@ impl<K: Ord, V, A: Handle> BTreeMap<K, V, A> {
         key: Q,
     ) -> Option<OccupiedEntry<'_, K, V, A>>
         ensures* writes_back { sem 𝓛 (rests_if_none_in K.row V.row A.row A.Allocator self.entry result) }
-        ensures pair { MatchOption result (not_below Q.order (entries self.old) (Q.sought key) ≡ []) (λ e. IsFirstBehind e (below Q.order (entries self.old) (Q.sought key)) (not_below Q.order (entries self.old) (Q.sought key))) }
+        ensures pair { MatchOption result (not_below Q.order (entries self.old) (Q.sought key) ≡ []) (λ e. IsFirstAfter e (below Q.order (entries self.old) (Q.sought key)) (not_below Q.order (entries self.old) (Q.sought key))) }
         ensures same_map { IfSome result (λ e. (entry_map_ref (Occupied e)).ghost_name ≡ self.entry.ghost_name) }
         ensures map { IfSome result (λ e. entry_map (Occupied e) ≡ self.old) }
         ensures ascending { IsAscending K.cmp (entries self.old) }
@@ -39,7 +39,7 @@ impl<K: Ord, V, A: Handle> BTreeMap<K, V, A> {
     /// the pair by `range((Excluded(key), Unbounded)).next()`, and then searches for it again.
     pub fn first_entry_after<Q: Query<K>>(&mut self, key: Q) -> Option<OccupiedEntry<'_, K, V, A>>
         ensures* writes_back { sem 𝓛 (rests_if_none_in K.row V.row A.row A.Allocator self.entry result) }
-        ensures pair { MatchOption result (above Q.order (entries self.old) (Q.sought key) ≡ []) (λ e. IsFirstBehind e (not_above Q.order (entries self.old) (Q.sought key)) (above Q.order (entries self.old) (Q.sought key))) }
+        ensures pair { MatchOption result (above Q.order (entries self.old) (Q.sought key) ≡ []) (λ e. IsFirstAfter e (not_above Q.order (entries self.old) (Q.sought key)) (above Q.order (entries self.old) (Q.sought key))) }
         ensures same_map { IfSome result (λ e. (entry_map_ref (Occupied e)).ghost_name ≡ self.entry.ghost_name) }
         ensures map { IfSome result (λ e. entry_map (Occupied e) ≡ self.old) }
         ensures ascending { IsAscending K.cmp (entries self.old) }
@@ -59,7 +59,7 @@ impl<K: Ord, V, A: Handle> BTreeMap<K, V, A> {
         key: Q,
     ) -> Option<OccupiedEntry<'_, K, V, A>>
         ensures* writes_back { sem 𝓛 (rests_if_none_in K.row V.row A.row A.Allocator self.entry result) }
-        ensures pair { MatchOption result (not_above Q.order (entries self.old) (Q.sought key) ≡ []) (λ e. IsLastAhead e (not_above Q.order (entries self.old) (Q.sought key)) (above Q.order (entries self.old) (Q.sought key))) }
+        ensures pair { MatchOption result (not_above Q.order (entries self.old) (Q.sought key) ≡ []) (λ e. IsLastBefore e (not_above Q.order (entries self.old) (Q.sought key)) (above Q.order (entries self.old) (Q.sought key))) }
         ensures same_map { IfSome result (λ e. (entry_map_ref (Occupied e)).ghost_name ≡ self.entry.ghost_name) }
         ensures map { IfSome result (λ e. entry_map (Occupied e) ≡ self.old) }
         ensures ascending { IsAscending K.cmp (entries self.old) }
@@ -76,7 +76,7 @@ impl<K: Ord, V, A: Handle> BTreeMap<K, V, A> {
     /// the pair by `range(..key).next_back()`, and then searches for it again.
     pub fn last_entry_before<Q: Query<K>>(&mut self, key: Q) -> Option<OccupiedEntry<'_, K, V, A>>
         ensures* writes_back { sem 𝓛 (rests_if_none_in K.row V.row A.row A.Allocator self.entry result) }
-        ensures pair { MatchOption result (below Q.order (entries self.old) (Q.sought key) ≡ []) (λ e. IsLastAhead e (below Q.order (entries self.old) (Q.sought key)) (not_below Q.order (entries self.old) (Q.sought key))) }
+        ensures pair { MatchOption result (below Q.order (entries self.old) (Q.sought key) ≡ []) (λ e. IsLastBefore e (below Q.order (entries self.old) (Q.sought key)) (not_below Q.order (entries self.old) (Q.sought key))) }
         ensures same_map { IfSome result (λ e. (entry_map_ref (Occupied e)).ghost_name ≡ self.entry.ghost_name) }
         ensures map { IfSome result (λ e. entry_map (Occupied e) ≡ self.old) }
         ensures ascending { IsAscending K.cmp (entries self.old) }

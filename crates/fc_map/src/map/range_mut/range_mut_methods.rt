@@ -109,7 +109,7 @@ impl<'a, K: Ord, V, A: Handle> RangeMut<'a, K, V, A> {
         Some((&pair.0, &pair.1))
     }
 
-    // Goes on past the first pair, and answers how many steps of the front lead to its node, and its place there.
+    // Goes on over the first pair, and answers how many steps of the front lead to its node, and its place there.
     fn step(&mut self) -> Option<(usize, usize)>
         ensures same_map { self.new.map ≡ self.old.map }
         ensures none { result ≡ None → self.new ≡ self.old }
@@ -124,7 +124,7 @@ impl<'a, K: Ord, V, A: Handle> RangeMut<'a, K, V, A> {
         Some(place)
     }
 
-    // Goes back past the last pair, and answers its place.
+    // Goes back over the last pair, and answers its place.
     fn step_back(&mut self) -> Option<Path>
         ensures same_map { self.new.map ≡ self.old.map }
         ensures none { result ≡ None → self.new ≡ self.old }

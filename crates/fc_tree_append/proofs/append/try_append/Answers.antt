@@ -4,7 +4,7 @@ use denote.Param.{param}
 use Rattle.fc_base.specs.Ascending.{IsAscending}
 use Rattle.fc_base.specs.Joined.{joined}
 use Rattle.fc_tree_node.specs.Tree.{entries, IsSoundMap}
-use Rattle.fc_base.proofs.JoinedLaws.{joined_behind}
+use Rattle.fc_base.proofs.JoinedLaws.{joined_after}
 use Rattle.fc_tree_build.proofs.StackSizes.{builder_fits}
 use Rattle.fc_tree_append.proofs.JoinFacts.{joined_none}
 use Rattle.fc_tree_append.proofs.append.try_append.Goals as goal
@@ -15,23 +15,23 @@ returns-then-our_len-eq0-clause-joined g c =
     let theirs = entries c.args.theirs.now in
     ap (λ r. entries r) c.swap.ensures.x_after ∙ sym (ap (λ xs. joined g.K.Ord.cmp xs theirs) e ∙ joined_none g.K.Ord.cmp theirs c.requires.order.1)
 
-pub returns-then-is_beyond-clause-joined : goal.returns-then-is_beyond-clause-joined
-returns-then-is_beyond-clause-joined g c =
-    c.in_ok-try_join.ensures.pairs ∙ sym (joined_behind g.K.Ord.cmp (entries c.args.ours.now) (entries c.args.theirs.now)
-    (c.is_beyond.ensures.beyond (search rules)))
+pub returns-then-is_after-clause-joined : goal.returns-then-is_after-clause-joined
+returns-then-is_after-clause-joined g c =
+    c.in_ok-try_join.ensures.pairs ∙ sym (joined_after g.K.Ord.cmp (entries c.args.ours.now) (entries c.args.theirs.now)
+    (c.is_after.ensures.after (search rules)))
 
-pub returns-then-is_beyond-clause-len : goal.returns-then-is_beyond-clause-len
-returns-then-is_beyond-clause-len g c =
+pub returns-then-is_after-clause-len : goal.returns-then-is_after-clause-len
+returns-then-is_after-clause-len g c =
     let ours = c.requires.lens.0 in
     let theirs = c.requires.lens.1 in
     let e = ap length c.in_ok-try_join.ensures.pairs ∙ length-append (entries c.args.ours.now) (entries c.args.theirs.now) in
     omega arith
 
-pub returns-then-is_beyond-clause-emptied : goal.returns-then-is_beyond-clause-emptied
-returns-then-is_beyond-clause-emptied g c = ap (λ o. entries o) c.in_ok-try_join.ensures.emptied
+pub returns-then-is_after-clause-emptied : goal.returns-then-is_after-clause-emptied
+returns-then-is_after-clause-emptied g c = ap (λ o. entries o) c.in_ok-try_join.ensures.emptied
 
-pub returns-then-is_beyond-clause-sound : goal.returns-then-is_beyond-clause-sound
-returns-then-is_beyond-clause-sound g c = (c.in_ok-try_join.ensures.sound, subst (λ o. IsSoundMap o) (sym c.in_ok-try_join.ensures.emptied) tt)
+pub returns-then-is_after-clause-sound : goal.returns-then-is_after-clause-sound
+returns-then-is_after-clause-sound g c = (c.in_ok-try_join.ensures.sound, subst (λ o. IsSoundMap o) (sym c.in_ok-try_join.ensures.emptied) tt)
 
 pub try_for_given_leaves-requires : goal.try_for_given_leaves-requires
 try_for_given_leaves-requires g c = builder_fits (param 0 g.row.K) (param 1 g.row.V) g.row.A g.A.Allocator g.met.A.Handle.small
@@ -62,7 +62,7 @@ returns-clause-comparisons g c =
     omega arith
 
 pub returns-clause-merged : goal.returns-clause-merged
-returns-clause-merged g c behind =
+returns-clause-merged g c later =
     let ours = ap (λ o. length (entries o)) c.take.ensures.value in
     let theirs = ap (λ o. length (entries o)) c.take-2.ensures.value in
     omega arith

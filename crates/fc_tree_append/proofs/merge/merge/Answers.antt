@@ -28,7 +28,7 @@ returns-clause-pairs g c =
     ] in
     c.finish.ensures.pairs ∙ c.push_all-2.ensures.pairs ∙ ap (λ zs. zs ++ l.their_pairs.pairs) c.push_all.ensures.pairs
     ∙ drained g.K.Ord.cmp l.builder.pairs l.our_pairs.pairs l.their_pairs.pairs done i.0.1
-    ∙ i.2 ∙ ap (λ zs. zs ++ joined g.K.Ord.cmp c.over-our_pairs.result.pairs c.over-their_pairs.result.pairs) c.requires.blank
+    ∙ i.2 ∙ ap (λ zs. zs ++ joined g.K.Ord.cmp c.over-our_pairs.result.pairs c.over-their_pairs.result.pairs) c.requires.empty
     ∙ ap (λ zs. joined g.K.Ord.cmp zs c.over-their_pairs.result.pairs) c.over-our_pairs.ensures.pairs
     ∙ ap (λ zs. joined g.K.Ord.cmp (entries c.args.ours) zs) c.over-their_pairs.ensures.pairs
 
@@ -107,7 +107,7 @@ array_drop-our_pairs-inside-requires g c = items_fit (param 0 g.row.K) (param 1 
 pub returns-clause-len : goal.returns-clause-len
 returns-clause-len g c =
     let all = ap length c.finish.ensures.pairs in
-    let blank = ap length c.requires.blank in
+    let empty = ap length c.requires.empty in
     omega arith
 
 pub returns-clause-comparisons : goal.returns-clause-comparisons

@@ -1,10 +1,10 @@
 use Rattle.std.proofs.Common.{rules, ◌≡◌, ℕ, suc, ◌+◌, ◌-◌, ◌<◌, ◌≤◌, [], ◌∷◌, length, ap, ◌∙◌, arith, length-append}
 use Rattle.fc_base.specs.Sizes.{capacity, most_levels}
-use Rattle.fc_tree_node.specs.Node.{own_pairs, IsBlankInner}
+use Rattle.fc_tree_node.specs.Node.{own_pairs, IsEmptyInner}
 use Rattle.fc_tree_build.specs.Spine.{IsOpenEnd}
 use Rattle.fc_tree_build.specs.Spares.{needed}
 use Rattle.fc_tree_build.proofs.SpineFacts.{child_room, end_grown, end_pairs, spine_pairs, spine_pushed, worth_pushed, count_pushed, length_pushed}
-use Rattle.fc_tree_build.proofs.SpineFacts.{closed_sound, closed_pairs, carried_pairs, some_needed, used_here, not_blank, spare_taken, blank_end}
+use Rattle.fc_tree_build.proofs.SpineFacts.{closed_sound, closed_pairs, carried_pairs, some_needed, used_here, not_empty, spare_taken, empty_end}
 use Rattle.fc_tree_build.proofs.spine.+attach.Given as given
 use Rattle.fc_tree_build.proofs.spine.+attach.Goals as goal
 use Rattle.fc_tree_build.proofs.spine.+attach.Goals.{After-open_end-node, After-len, After-take_spare}
@@ -21,11 +21,11 @@ full g t c z =
     let e = ap length c.put_child.ensures.pairs in
     let v = c.len.ensures.value in
     let f : capacity ≤ length (own_pairs c.open_end-node.result) = omega arith in
-    let some = not_blank c.args.spine.now _ c.open_end-node.ensures.new_root f in
+    let some = not_empty c.args.spine.now _ c.open_end-node.ensures.new_root f in
     (f, some, c.open_end-node.ensures.full some f, ap (λ v. length v.items) (c.open_end-node.ensures.kept some))
 
 pub open_end-node-requires : goal.open_end-node-requires
-open_end-node-requires g t c = let some = some_needed c.args.spine.now in (search rules, (c.requires.blank, omega arith))
+open_end-node-requires g t c = let some = some_needed c.args.spine.now in (search rules, (c.requires.empty, omega arith))
 
 pub put_child-requires-clause-inner : goal.put_child-requires-clause-inner
 put_child-requires-clause-inner g t c leaf = (end g t (goal.at.put_child-requires-clause-inner g t c).After-open_end-node).1 leaf
@@ -90,12 +90,12 @@ attach-requires g t c κs within =
     let e = c.put_child.ensures.pairs in
     let k = ap length e in
     let closed = closed_sound h _ _ _ o.0 e c.put_child.ensures.children (omega arith) c.requires.levels.2 in
-    let blank = c.open_end-node.ensures.blank in
+    let empty = c.open_end-node.ensures.empty in
     let d = c.requires.low.0 - 1 in
     let falls : length c.open_end-node.new.spine < length c.args.spine.now = omega arith in
     let s = c.open_end-node.new.spine in
     let short : (e : ℕ) × (e ≤ most_levels) × (length s ≤ e) × (needed s ≤ e) = (d, omega arith, omega arith, omega arith) in
-    (search rules, (search rules, (search rules, (search rules, (search rules, ((suc h, o.1, closed), (blank, (omega arith, short))))))))
+    (search rules, (search rules, (search rules, (search rules, (search rules, ((suc h, o.1, closed), (empty, (omega arith, short))))))))
 
 pub take_spare-requires : goal.take_spare-requires
 take_spare-requires g t c =
@@ -109,32 +109,32 @@ push-requires-2 g t c =
     let s = c.attach.ensures.short (c.requires.low.0 - 1) (omega arith) (omega arith) in
     (search rules, omega arith)
 
--- a blank node came up from the spares
-blank : (g : given.Over) (t : ℕ) (c : goal.After-take_spare g t) → IsBlankInner c.take_spare.result
-blank g t c = (spare_taken _ _ _ c.take_spare.ensures.items c.attach.ensures.blank).0
+-- an empty node came up from the spares
+empty : (g : given.Over) (t : ℕ) (c : goal.After-take_spare g t) → IsEmptyInner c.take_spare.result
+empty g t c = (spare_taken _ _ _ c.take_spare.ensures.items c.attach.ensures.empty).0
 
 pub returns-clause-pairs : goal.returns-clause-pairs
 returns-clause-pairs g t c =
     let o = end g t (goal.at.returns-clause-pairs g t c).After-open_end-node in
-    let z = blank g t (goal.at.returns-clause-pairs g t c).After-take_spare in
+    let z = empty g t (goal.at.returns-clause-pairs g t c).After-take_spare in
     let closed = closed_pairs c.requires.levels.0 _ _ _ o c.put_child.ensures.pairs c.put_child.ensures.children in
     carried_pairs _ _ _ _ _ c.open_end-node.result _ c.args.subtree c.args.pair c.open_end-node.ensures.pairs closed c.attach.ensures.pairs z c.push-2.ensures
 
 pub returns-clause-levels : goal.returns-clause-levels
 returns-clause-levels g t c h s w =
     let o = c.open_end-node.ensures.levels h s in
-    let z = blank g t (goal.at.returns-clause-levels g t c).After-take_spare in
+    let z = empty g t (goal.at.returns-clause-levels g t c).After-take_spare in
     let closed = closed_sound h _ _ _ o.0 c.put_child.ensures.pairs c.put_child.ensures.children (omega arith) w in
-    spine_pushed h _ _ _ c.push-2.ensures (c.attach.ensures.levels (suc h) o.1 closed) (blank_end h _ z)
+    spine_pushed h _ _ _ c.push-2.ensures (c.attach.ensures.levels (suc h) o.1 closed) (empty_end h _ z)
 
-pub returns-clause-blank : goal.returns-clause-blank
-returns-clause-blank g t c = (spare_taken _ _ _ c.take_spare.ensures.items c.attach.ensures.blank).1
+pub returns-clause-empty : goal.returns-clause-empty
+returns-clause-empty g t c = (spare_taken _ _ _ c.take_spare.ensures.items c.attach.ensures.empty).1
 
 pub returns-clause-worth : goal.returns-clause-worth
 returns-clause-worth g t c =
     let o = (end g t (goal.at.returns-clause-worth g t c).After-open_end-node).0 in
     let e = ap length c.put_child.ensures.pairs in
-    let z = ap length (blank g t (goal.at.returns-clause-worth g t c).After-take_spare).0 in
+    let z = ap length (empty g t (goal.at.returns-clause-worth g t c).After-take_spare).0 in
     let a = worth_pushed _ _ _ c.push-2.ensures in
     omega arith
 
@@ -142,7 +142,7 @@ pub returns-clause-left : goal.returns-clause-left
 returns-clause-left g t c =
     let o = (end g t (goal.at.returns-clause-left g t c).After-open_end-node).0 in
     let e = ap length c.put_child.ensures.pairs in
-    let z = ap length (blank g t (goal.at.returns-clause-left g t c).After-take_spare).0 in
+    let z = ap length (empty g t (goal.at.returns-clause-left g t c).After-take_spare).0 in
     let a = count_pushed _ _ _ c.push-2.ensures in
     let l = length_pushed _ _ _ c.push-2.ensures in
     let i = length_pushed _ _ _ c.take_spare.ensures.items in

@@ -5,7 +5,7 @@ use Rattle.fc_tree_node.proofs.Pairs.{leaf_children}
 use Rattle.fc_tree_search.proofs.SearchFacts.{child_there}
 use Rattle.fc_tree_cursor.specs.Gap.{GoesOn}
 use Rattle.fc_tree_cursor.proofs.GapFacts.{around_gap, around_child, goes_here, goes_below, ends_here, ends_below}
-use Rattle.fc_tree_cursor.proofs.Turns.{turn_first, child_ascends, ahead_at, amid_parted, both_at}
+use Rattle.fc_tree_cursor.proofs.Turns.{turn_first, child_ascends, before_at, amid_parted, both_at}
 use Rattle.fc_tree_cursor.proofs.ends.+push_both.Given as given
 use Rattle.fc_tree_cursor.proofs.ends.+push_both.Goals as goal
 use Rattle.fc_tree_cursor.proofs.ends.+push_both.Goals.{Else-is_leaf}
@@ -43,7 +43,7 @@ returns-clause-front g t c =
     let k = has_child g t (goal.at.returns-clause-front g t c).Else-is_leaf in
     goes_below c.args.front.now c.push.new.self c.push_both.new.front i l.0 n c.child.result.now _ _ l.1 k c.push.ensures c.child.ensures
     c.push_both.ensures.front
-    (ahead_at g.met.Q.Query.fits g.Q.Query.sought l.0 n l.1 c.requires.order i _ (around_child l.0 n _ i l.1 k c.child.ensures) c.args.lo.now
+    (before_at g.met.Q.Query.fits g.Q.Query.sought l.0 n l.1 c.requires.order i _ (around_child l.0 n _ i l.1 k c.child.ensures) c.args.lo.now
     (turn_first c.place_in-start.ensures))
 
 pub returns-clause-back : goal.returns-clause-back
@@ -71,7 +71,7 @@ returns-then-is_leaf-clause-front g t c =
     let i = c.place_in-start.result in
     let r = turn_first c.place_in-start.ensures in
     let none = ap length (leaf_children c.args.node.now (c.if-is_leaf.ensures.0 refl)) in
-    let a = ahead_at g.met.Q.Query.fits g.Q.Query.sought l.0 n l.1 c.requires.order i [] (around_gap l.0 n i l.1 (omega (arith, none)) r.within) c.args.lo.now
+    let a = before_at g.met.Q.Query.fits g.Q.Query.sought l.0 n l.1 c.requires.order i [] (around_gap l.0 n i l.1 (omega (arith, none)) r.within) c.args.lo.now
     r in
     goes_here c.args.front.now c.push.new.self i l.0 n _ _ l.1 (omega arith) r.within c.push.ensures a refl
 

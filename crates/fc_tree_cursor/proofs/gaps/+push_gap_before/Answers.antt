@@ -26,9 +26,9 @@ returns-then-step-child_count g t c =
     let place = c.args.place.now in
     let l = c.requires.levels in
     let all = end_step place c.args.node.now c.requires.place (omega arith) in
-    subst (λ (r : List _). GoesOn c.args.gap.now c.push_last.new.gap c.args.node.now (length (before_pair r c.args.node.now))) (sym all)
-    (goes_below c.args.gap.now c.push.new.self c.push_last.new.gap (get_or place 0 0) l.0 c.args.node.now c.child-then-step-child_count.result.now _ _ l.1
-    (omega arith) c.push.ensures c.child-then-step-child_count.ensures c.push_last.ensures.gap
+    subst (λ (r : List _). GoesOn c.args.gap.now c.last_leaf_edge.new.gap c.args.node.now (length (before_pair r c.args.node.now))) (sym all)
+    (goes_below c.args.gap.now c.push.new.self c.last_leaf_edge.new.gap (get_or place 0 0) l.0 c.args.node.now c.child-then-step-child_count.result.now _ _ l.1
+    (omega arith) c.push.ensures c.child-then-step-child_count.ensures c.last_leaf_edge.ensures.gap
     (own_count l.0 c.args.node.now (get_or place 0 0) _ l.1 (subst (λ r. IsPlace r c.args.node.now) all c.requires.place)
     (around_child l.0 c.args.node.now _ (get_or place 0 0) l.1 (omega arith) c.child-then-step-child_count.ensures)))
 

@@ -6,20 +6,20 @@ use Rattle.fc_tree_cursor.proofs.span.start_within.Goals as goal
 
 pub returns-in-Unbounded-clause-pairs : goal.returns-in-Unbounded-clause-pairs
 returns-in-Unbounded-clause-pairs g c =
-    let p = c.push_start.ensures in
+    let p = c.lower_bound_edge.ensures in
     let a = c.args in
     let o = c.requires in
     let w = start_alone g.met.Q.Query.fits g.Q.Query.sought a.lo.now a.hi.now a.root.now _ c.in-Some.is o.order _ c.start_of.ensures c.in-Unbounded.is in
-    start_taken a.root.now _ _ _ c.in-Some.is c.push_start.new.gap a.back.now _ _ p.run o.start.1 (from_nothing _ _ _ _ o.start.0 p.gap) w
+    start_taken a.root.now _ _ _ c.in-Some.is c.lower_bound_edge.new.gap a.back.now _ _ p.run o.start.1 (from_nothing _ _ _ _ o.start.0 p.gap) w
 
 pub returns-in-Unbounded-lo-clause-pairs : goal.returns-in-Unbounded-lo-clause-pairs
 returns-in-Unbounded-lo-clause-pairs g c =
-    let p = c.push_stop.ensures in
+    let p = c.upper_bound_edge.ensures in
     let a = c.args in
     let o = c.requires in
     let w = stop_alone g.met.Q.Query.fits g.Q.Query.sought a.lo.now a.hi.now a.root.now _ c.in-Some.is o.order _ c.stop_of.ensures
     c.in-Unbounded-lo.is in
-    stop_taken a.root.now _ _ _ c.in-Some.is a.front.now c.push_stop.new.gap _ _ p.run o.sound o.start.0 (from_nothing _ _ _ _ o.start.1 p.gap) w
+    stop_taken a.root.now _ _ _ c.in-Some.is a.front.now c.upper_bound_edge.new.gap _ _ p.run o.sound o.start.0 (from_nothing _ _ _ _ o.start.1 p.gap) w
 
 pub returns-clause-pairs : goal.returns-clause-pairs
 returns-clause-pairs g c =

@@ -1,50 +1,41 @@
-use Rattle.std.proofs.Common.{◌≡◌, suc, ◌+◌, ◌<◌, length, add-one, refl, sym, subst, arith}
-use Rattle.fc_tree_node.specs.Node.{own_pairs}
-use Rattle.fc_tree_node.specs.Place.{before_child}
-use Rattle.fc_tree_for_each.specs.Visits.{CalledAtPair}
-use Rattle.fc_tree_for_each.proofs.Turns.{Grown, grown_start}
-use Rattle.fc_tree_for_each.proofs.Steps.{IsKept, kept_all}
-use Rattle.fc_tree_for_each.proofs.Walking.{leaf_step, leaf_end}
+use Rattle.std.proofs.Common.{◌≡◌, arith, length, refl, subst, ap}
+use Rattle.fc_tree_node.specs.Node.{pairs_of}
+use Rattle.fc_tree_node.proofs.Pairs.{leaf_pairs}
+use Rattle.fc_tree_for_each.specs.Visits.{CalledAtPair, IsVisitedAt}
+use Rattle.fc_tree_node.proofs.Bare.{same_size}
+use Rattle.fc_tree_for_each.proofs.Turns.{at_first}
+use Rattle.fc_tree_for_each.proofs.Walking.{leaf_next}
 use Rattle.fc_tree_for_each.proofs.visit.visit_leaf.Goals as goal
+
+pub loop-i-init : goal.loop-i-init
+loop-i-init g c =
+    let p = ap length (leaf_pairs c.args.node.now c.requires.leaf.1) in
+    let o = c.requires.order in
+    record {
+      callable = c.requires.callable;
+      le = o.0;
+      same = refl;
+      visited = at_first (CalledAtPair g.F.FnMut) c.args.f.now c.args.start (pairs_of c.args.node.now) (omega arith);
+    }
 
 pub loop-i-preserved : goal.loop-i-preserved
 loop-i-preserved g c =
     let at = c.loop-i in
     let v = c.visit_own.ensures.visited in
-    let R = CalledAtPair g.F.FnMut in
-    let first = c.args.f.now in
-    let front = before_child c.args.node.now c.args.start in
-    let lt : at.i < length (own_pairs c.args.node.now) = (omega arith) in
-    let s = leaf_step R c.args.node.now at.node c.visit_own.new.node at.i v.0 v.1 first at.f c.visit_own.new.f front c.requires.leaf at.invariant.kept lt
-    at.invariant.grown v.2 v.3 v.4 in
-    let one : suc at.i ≡ at.i + 1 = sym (add-one at.i) in
-    record {
-      callable = c.visit_own.ensures.callable;
-      le = (omega arith);
-      kept = subst (λ j. IsKept c.args.node.now c.visit_own.new.node j j) one s.0;
-      grown = subst (λ j. Grown R first c.visit_own.new.f front (before_child c.args.node.now j) (before_child c.visit_own.new.node j)) one s.1;
-    }
-
-pub returns-clause-levels : goal.returns-clause-levels
-returns-clause-levels g c = c.loop-i.invariant.kept.levels 0 c.requires.leaf
+    let s = leaf_next (CalledAtPair g.F.FnMut) c.args.node.now at.node at.i v.0 v.1 c.requires.leaf at.invariant.same (omega arith)
+    at.invariant.visited v.2 v.3 in
+    record { callable = c.visit_own.ensures.callable; le = omega arith; same = rw v.4 s.0; visited = rw v.4 s.1 }
 
 pub returns-clause-visited : goal.returns-clause-visited
 returns-clause-visited g c =
     let at = c.loop-i in
-    leaf_end (CalledAtPair g.F.FnMut) c.args.node.now at.node at.i c.args.end c.args.f.now at.f (before_child c.args.node.now c.args.start) c.requires.leaf
-    at.invariant.kept (omega arith) at.invariant.grown
+    let e : at.i ≡ c.args.end = omega arith in
+    subst (λ j. IsVisitedAt (CalledAtPair g.F.FnMut) c.args.f.now at.f c.args.start j (pairs_of c.args.node.now) (pairs_of at.node)) e at.invariant.visited
 
-pub returns-clause-shape : goal.returns-clause-shape
-returns-clause-shape g c path = c.loop-i.invariant.kept.shape path
+pub returns-clause-same : goal.returns-clause-same
+returns-clause-same g c = c.loop-i.invariant.same
 
-pub loop-i-init : goal.loop-i-init
-loop-i-init g c =
-    let n = c.args.node.now in
-    let o = c.requires.order in
-    let lead = before_child n c.args.start in
-    record {
-      callable = c.requires.callable;
-      le = o.0;
-      kept = kept_all n c.args.start c.args.start;
-      grown = grown_start (CalledAtPair g.F.FnMut) c.args.f.now lead lead lead refl refl;
-    }
+pub visit_own-requires-clause-inside : goal.visit_own-requires-clause-inside
+visit_own-requires-clause-inside g c =
+    let s = same_size c.args.node.now c.loop-i.node c.loop-i.invariant.same in
+    omega arith

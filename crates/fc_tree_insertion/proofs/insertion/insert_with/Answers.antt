@@ -17,8 +17,8 @@ insert_below-requires g c =
       inner = omega arith;
     }
 
-pub take-blank-requires : goal.take-blank-requires
-take-blank-requires g c =
+pub take-empty-requires : goal.take-empty-requires
+take-empty-requires g c =
     let e = needed_whole c.args.path.now c.args.root.now (omega (arith, c.in-Some.ensures.halved)) in
     omega (arith, c.in-Some.ensures.halved)
 

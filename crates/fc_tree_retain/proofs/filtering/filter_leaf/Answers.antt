@@ -8,25 +8,25 @@ pub loop-init : goal.loop-init
 loop-init g c =
     record {
       callable = c.requires.callable;
-      loose = c.requires.leaf;
+      unbalanced = c.requires.leaf;
       at =
           leaf_start (FiltersPair g.S.Filter.asked g.S.Filter.given) c.args.filter.now (own_pairs c.args.node.now) [] (own_pairs c.args.node.now) 0 0
           (c.len-end.result - 0) refl refl (omega arith);
     }
 
-pub filter_own-at-requires-clause-inside : goal.filter_own-at-requires-clause-inside
-filter_own-at-requires-clause-inside g c =
+pub filter_pair-at-requires-clause-inside : goal.filter_pair-at-requires-clause-inside
+filter_pair-at-requires-clause-inside g c =
     leaf_room (FiltersPair g.S.Filter.asked g.S.Filter.given) [] 0 c.args.filter.now c.loop.filter _ _ c.loop.at (c.len-end.result - c.loop.counter)
     c.loop.invariant.at (omega arith)
 
 pub loop-preserved : goal.loop-preserved
 loop-preserved g c =
     record {
-      callable = c.filter_own-at.ensures.callable;
-      loose = c.filter_own-at.ensures.loose;
-      at = leaf_passed (FiltersPair g.S.Filter.asked g.S.Filter.given) [] 0 c.args.filter.now c.loop.filter c.filter_own-at.new.filter _ _ _ c.loop.at
-          (c.len-end.result - c.loop.counter) (c.len-end.result - (c.loop.counter + 1)) c.filter_own-at.result c.loop.invariant.at (omega arith)
-          c.filter_own-at.ensures.passed;
+      callable = c.filter_pair-at.ensures.callable;
+      unbalanced = c.filter_pair-at.ensures.unbalanced;
+      at = leaf_passed (FiltersPair g.S.Filter.asked g.S.Filter.given) [] 0 c.args.filter.now c.loop.filter c.filter_pair-at.new.filter _ _ _ c.loop.at
+          (c.len-end.result - c.loop.counter) (c.len-end.result - (c.loop.counter + 1)) c.filter_pair-at.result c.loop.invariant.at (omega arith)
+          c.filter_pair-at.ensures.passed;
     }
 
 pub returns-clause-filtered : goal.returns-clause-filtered

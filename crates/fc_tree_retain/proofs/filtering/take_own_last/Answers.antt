@@ -10,8 +10,8 @@ taken g c =
     let q = c.take_last_child.ensures in
     end_off _ _ _ _ c.requires.inner c.requires.empty (sym q.pairs ∙ p.pairs) (q.children ∙ ap (λ cs. cs ++ c.take_last_child.result ∷ []) (sym p.children))
 
-pub returns-clause-loose : goal.returns-clause-loose
-returns-clause-loose g c = (taken g (goal.at.returns-clause-loose g c).After-take_last_pair).levels
+pub returns-clause-unbalanced : goal.returns-clause-unbalanced
+returns-clause-unbalanced g c = (taken g (goal.at.returns-clause-unbalanced g c).After-take_last_pair).levels
 
 pub returns-clause-pairs : goal.returns-clause-pairs
 returns-clause-pairs g c = (taken g (goal.at.returns-clause-pairs g c).After-take_last_pair).pairs

@@ -33,13 +33,14 @@ rebalance_seam-requires g c = (
       (done g (goal.at.rebalance_seam-requires g c).After-loop) (omega arith) c.requires.0 c.requires.1).0.seam,
 )
 
-pub returns-then-at-len-clause-thin : goal.returns-then-at-len-clause-thin
-returns-then-at-len-clause-thin g c h t =
-    let x = bordering_last c.args.node.now c.loop.node c.args.first c.args.last c.loop.at (done g (goal.at.returns-then-at-len-clause-thin g c).After-loop)
+pub returns-then-at-len-clause-underfull : goal.returns-then-at-len-clause-underfull
+returns-then-at-len-clause-underfull g c h t =
+    let x = bordering_last c.args.node.now c.loop.node c.args.first c.args.last c.loop.at (done g (goal.at.returns-then-at-len-clause-underfull g c).After-loop)
     (omega arith) h t in
     bordering_seam_rebalanced h c.loop.at _ c.loop.node _ x.0 x.1 (c.rebalance_seam.ensures.seam_rebalanced h x.0.seam)
 
-pub returns-else-at-len-clause-thin : goal.returns-else-at-len-clause-thin
-returns-else-at-len-clause-thin g c h t =
-    bordering_end c.args.node.now c.loop.node c.args.first c.args.last c.loop.at (done g (goal.at.returns-else-at-len-clause-thin g c).After-loop) (omega arith)
+pub returns-else-at-len-clause-underfull : goal.returns-else-at-len-clause-underfull
+returns-else-at-len-clause-underfull g c h t =
+    bordering_end c.args.node.now c.loop.node c.args.first c.args.last c.loop.at (done g (goal.at.returns-else-at-len-clause-underfull g c).After-loop)
+    (omega arith)
     h t

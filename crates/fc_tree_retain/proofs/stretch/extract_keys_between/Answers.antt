@@ -4,7 +4,7 @@ use Rattle.fc_tree_retain.proofs.stretch.extract_keys_between.Goals as goal
 
 pub returns-clause-extracted : goal.returns-clause-extracted
 returns-clause-extracted g c =
-    let e = c.filter_stretch.ensures.filtered in (
+    let e = c.filter_tree_range.ensures.filtered in (
       (e.0.pick, e.0.each),
       e.1,
       as_extracted _ _ (AskedAtKey g.F.FnMut) (GivenKey g.E.FnMut) (λ s. s.pick) (λ s. s.each)

@@ -4,7 +4,7 @@ use Rattle.fc_tree_retain.proofs.stretch.retain_keys_between.Goals as goal
 
 pub returns-clause-retained : goal.returns-clause-retained
 returns-clause-retained g c =
-    let e = c.filter_stretch.ensures.filtered in (
+    let e = c.filter_tree_range.ensures.filtered in (
       e.0.keep,
       e.1,
       as_retained _ _ (AskedAtKey g.F.FnMut) (λ s. s.keep) (λ s t e w b a. a) (λ s t e q. q) _ _ _ _ e.2,

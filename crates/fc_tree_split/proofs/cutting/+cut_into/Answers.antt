@@ -6,7 +6,7 @@ use Rattle.fc_tree_node.proofs.Lists.{length_take}
 use Rattle.fc_tree_node.proofs.PathSteps.{more_steps}
 use Rattle.fc_tree_node.proofs.Lent.{replaced}
 use Rattle.fc_tree_node.proofs.Formed.{alike_both, alike_back}
-use Rattle.fc_tree_split.specs.Cut.{IsBlank}
+use Rattle.fc_tree_split.specs.Cut.{IsEmpty}
 use Rattle.fc_tree_node.proofs.MeasureFacts.{levelled_height}
 use Rattle.fc_tree_split.proofs.Cuts.{IsForked, forked, IsForkedOn, forked_on, end_front, end_back, end_front_levels, end_back_levels, fork_front, fork_back}
 use Rattle.fc_tree_split.proofs.Cuts.{fork_front_levels, fork_back_levels}
@@ -50,7 +50,7 @@ child_in-child-requires g t c =
     let long = ap length f.left_own ∙ length_take (get_or c.args.path.now 0 0) (own_pairs c.args.node.now) f.le in
     omega arith
 
-fork : (g : given.Over) (t : ℕ) (c : After-child_in-other g t) (h : ℕ) → IsLevelled h c.args.node.now → IsBlank h c.args.right.now
+fork : (g : given.Over) (t : ℕ) (c : After-child_in-other g t) (h : ℕ) → IsLevelled h c.args.node.now → IsEmpty h c.args.right.now
     → IsForked h c.args.path.now c.args.node.now c.move_suffix.new.self c.move_suffix.new.other
 fork g t c h l b =
     let m = c.move_suffix.ensures in
@@ -61,7 +61,7 @@ fork g t c h l b =
     forked h c.args.path.now _ c.args.right.now _ _ c.if-path-eq1.false (record { some = c.requires.some; short = omega arith; path = c.requires.path }) l b
     m.pairs m.children m.other_pairs m.other_children m.alike.0 m.alike.1
 
-fork_on : (g : given.Over) (t : ℕ) (c : After-child_in-other g t) (h : ℕ) (l : IsLevelled h c.args.node.now) (b : IsBlank h c.args.right.now)
+fork_on : (g : given.Over) (t : ℕ) (c : After-child_in-other g t) (h : ℕ) (l : IsLevelled h c.args.node.now) (b : IsEmpty h c.args.right.now)
     → IsForkedOn h c.args.path.now c.args.node.now c.move_suffix.new.self c.move_suffix.new.other (fork g t c h l b)
     c.child_in-child.result.now c.child_in-other.result.now
 fork_on g t c h l b =
@@ -84,7 +84,7 @@ cut_into-requires g t c κs within =
           search rules,
           (
             search rules,
-            (on.some, (subst (IsPath _) (sym (d.is ∙ f.left_child)) on.path, (f.below, on.short, d.levels, d.blank))),
+            (on.some, (subst (IsPath _) (sym (d.is ∙ f.left_child)) on.path, (f.below, on.short, d.levels, d.empty))),
           ),
         ),
       ),
@@ -110,7 +110,7 @@ returns-clause-front_levels g t c h l b =
     let f = fork g t a h l b in
     let d = fork_on g t a h l b in
     let set = replaced c.move_suffix.new.self (get_or c.args.path.now 0 0) c.cut_into.new.node in
-    fork_front_levels h c.args.path.now _ _ _ f _ _ set (c.cut_into.ensures.front_levels f.below d.levels d.blank)
+    fork_front_levels h c.args.path.now _ _ _ f _ _ set (c.cut_into.ensures.front_levels f.below d.levels d.empty)
 
 pub returns-clause-back_levels : goal.returns-clause-back_levels
 returns-clause-back_levels g t c h l b =
@@ -118,4 +118,4 @@ returns-clause-back_levels g t c h l b =
     let f = fork g t a h l b in
     let d = fork_on g t a h l b in
     let set = replaced c.move_suffix.new.other 0 c.cut_into.new.right in
-    fork_back_levels h c.args.path.now _ _ _ f _ _ set (c.cut_into.ensures.back_levels f.below d.levels d.blank)
+    fork_back_levels h c.args.path.now _ _ _ f _ _ set (c.cut_into.ensures.back_levels f.below d.levels d.empty)

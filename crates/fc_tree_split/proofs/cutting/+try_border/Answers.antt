@@ -2,11 +2,11 @@ use Rattle.std.proofs.Common.{◌<◌, rules, ap, sym, subst, arith}
 use Rattle.std.proofs.lemmas.Bool.{false≢true}
 use Rattle.fc_tree_node.specs.Node.{IsLevelled}
 use Rattle.fc_tree_node.specs.Measures.{height_of}
-use Rattle.fc_tree_split.proofs.Cuts.{blank_made, blank_above, first_child}
+use Rattle.fc_tree_split.proofs.Cuts.{empty_made, empty_above, first_child}
 use Rattle.fc_tree_split.proofs.cutting.+try_border.Goals as goal
 
 pub returns-then-is_leaf-clause-ok : goal.returns-then-is_leaf-clause-ok
-returns-then-is_leaf-clause-ok g t c = blank_made c.args.node.now c.try_leaf.result (c.if-is_leaf.ensures.0 (search rules)) c.try_leaf.ensures.ok
+returns-then-is_leaf-clause-ok g t c = empty_made c.args.node.now c.try_leaf.result (c.if-is_leaf.ensures.0 (search rules)) c.try_leaf.ensures.ok
 
 pub try_border-requires : goal.try_border-requires
 try_border-requires g t c κs within =
@@ -17,5 +17,5 @@ try_border-requires g t c κs within =
 
 pub returns-clause-ok : goal.returns-clause-ok
 returns-clause-ok g t c h l =
-    blank_above h c.args.node.now c.adopt.new.self c.in_ok-below.below c.child.result.now (λ l. false≢true (c.if-is_leaf.ensures.1 l))
+    empty_above h c.args.node.now c.adopt.new.self c.in_ok-below.below c.child.result.now (λ l. false≢true (c.if-is_leaf.ensures.1 l))
     c.adopt.ensures.pairs c.adopt.ensures.children c.child.ensures c.in_ok-below.ensures.ok l

@@ -15,7 +15,7 @@ returns-in-Ok g c o =
     c.in-Ok.ensures.all in
     let all = ap length put_in in
     let len = c.len-len.ensures.value in
-    answered (λ past. omega (arith, all, len, past)) (refl, put_in, refl)
+    answered (λ after. omega (arith, all, len, after)) (refl, put_in, refl)
 
 -- those before the one that was refused were put in
 pub returns-in-Err : goal.returns-in-Err

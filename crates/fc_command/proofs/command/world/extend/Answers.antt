@@ -17,7 +17,7 @@ returns-in-Ok g c o =
     let all = ap length put_in in
     let len = c.len-len.ensures.value in
     let fits = c.len-len.type_inv in
-    answered (λ past. omega arith) (refl, put_in, refl)
+    answered (λ after. omega arith) (refl, put_in, refl)
 
 -- those before the one that was refused were put in
 pub returns-in-Err : goal.returns-in-Err

@@ -13,8 +13,8 @@ advance-requires g c = record {
       omega (arith, fit);
 }
 
-pub pass_next-last-requires : goal.pass_next-last-requires
-pass_next-last-requires g c =
+pub next_place-last-requires : goal.next_place-last-requires
+next_place-last-requires g c =
     let m = c.args.self.now in
     let n = c.in-Some.root in
     let is = sym c.self.view_is ∙ c.in-Some.is in
@@ -34,11 +34,11 @@ returns g c =
     let sound = rw c.self.view_is at c.self.invariant.1 in
     let q = c.advance.new.gap in
     let slot : IsGapIn m q = subst (IsGapIn m) (sym c.advance.ensures) c.requires.gap in
-    let e = c.pass_next-last.ensures in
-    let next = c.pass_next-last.new.gap in
-    let last = c.pass_next-last.result.0 in
-    let place = c.pass_next-last.result.1 in
-    let out = step_out m n q next last place c.pass_next-last.result.2 is sound slot
+    let e = c.next_place-last.ensures in
+    let next = c.next_place-last.new.gap in
+    let last = c.next_place-last.result.0 in
+    let place = c.next_place-last.result.1 in
+    let out = step_out m n q next last place c.next_place-last.result.2 is sound slot
     (record { way_is = e.way; own = e.own; place_is = e.place; before = e.before; next_is = e.gap; run_is = e.run }) in
     let r = subst (λ p. IsStepOn m p next 0 last place) c.advance.ensures out.0 in
     record {

@@ -1,6 +1,6 @@
 use Rattle.std.proofs.Common.{refl}
 use Rattle.fc_map.specs.Entries.{entries}
-use Rattle.fc_map.proofs.BesideFacts.{first_behind, sides_joined}
+use Rattle.fc_map.proofs.BesideFacts.{first_after, sides_joined}
 use Rattle.fc_map.proofs.EntryFacts.{kept_place}
 use Rattle.fc_map.proofs.map.BTreeMap.first_entry_after.Goals as goal
 
@@ -15,7 +15,7 @@ returns-then-locate_after g c =
       (refl, λ w. refl, tt),
       record {
         writes_back = tt;
-        pair = first_behind m c.locate_after.new.path _ _ e.sound parts (e.place.0 c.if-locate_after.true);
+        pair = first_after m c.locate_after.new.path _ _ e.sound parts (e.place.0 c.if-locate_after.true);
         same_map = refl;
         map = refl;
         ascending = e.ascending;

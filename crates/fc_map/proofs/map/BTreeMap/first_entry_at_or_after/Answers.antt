@@ -1,7 +1,7 @@
 use Rattle.std.proofs.Common.{refl}
 use Rattle.fc_base.proofs.JoinedLaws.{halves_joined}
 use Rattle.fc_map.specs.Entries.{entries}
-use Rattle.fc_map.proofs.BesideFacts.{first_behind}
+use Rattle.fc_map.proofs.BesideFacts.{first_after}
 use Rattle.fc_map.proofs.EntryFacts.{kept_place}
 use Rattle.fc_map.proofs.map.BTreeMap.first_entry_at_or_after.Goals as goal
 
@@ -16,7 +16,7 @@ returns-then-locate_from g c =
       (refl, λ w. refl, tt),
       record {
         writes_back = tt;
-        pair = first_behind m c.locate_from.new.path _ _ e.sound parts (e.place.0 c.if-locate_from.true);
+        pair = first_after m c.locate_from.new.path _ _ e.sound parts (e.place.0 c.if-locate_from.true);
         same_map = refl;
         map = refl;
         ascending = e.ascending;

@@ -1,8 +1,8 @@
 use Rattle.std.proofs.Common.{◌≡◌, List, ◌∷◌, ℕ, ◌+◌, ◌≤◌, length, ap, ◌∙◌, arith, Option, Some, None}
 use Rattle.std.specs.Prelude.{MatchOption}
 use Rattle.fc_map.specs.Entries.{entries}
-use Rattle.fc_tree_merge.proofs.MergedFacts.{moved_on}
-use Rattle.fc_tree_merge.proofs.StableLaws.{extended_more}
+use Rattle.fc_tree_append.proofs.MergedFacts.{moved_on}
+use Rattle.fc_tree_append.proofs.StableLaws.{extended_more}
 use Rattle.fc_map.proofs.map.BTreeMap.insert_each.Goals as goal
 
 -- each item that is left has a place: at most one is used up

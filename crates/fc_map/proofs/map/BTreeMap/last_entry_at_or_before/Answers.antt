@@ -1,6 +1,6 @@
 use Rattle.std.proofs.Common.{refl}
 use Rattle.fc_map.specs.Entries.{entries}
-use Rattle.fc_map.proofs.BesideFacts.{last_ahead, sides_joined}
+use Rattle.fc_map.proofs.BesideFacts.{last_before, sides_joined}
 use Rattle.fc_map.proofs.EntryFacts.{kept_place}
 use Rattle.fc_map.proofs.map.BTreeMap.last_entry_at_or_before.Goals as goal
 
@@ -15,7 +15,7 @@ returns-then-locate_to g c =
       (refl, λ w. refl, tt),
       record {
         writes_back = tt;
-        pair = last_ahead m c.locate_to.new.path _ _ e.sound parts (e.place.0 c.if-locate_to.true);
+        pair = last_before m c.locate_to.new.path _ _ e.sound parts (e.place.0 c.if-locate_to.true);
         same_map = refl;
         map = refl;
         ascending = e.ascending;

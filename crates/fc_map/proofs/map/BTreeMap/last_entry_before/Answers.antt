@@ -1,7 +1,7 @@
 use Rattle.std.proofs.Common.{refl}
 use Rattle.fc_base.proofs.JoinedLaws.{halves_joined}
 use Rattle.fc_map.specs.Entries.{entries}
-use Rattle.fc_map.proofs.BesideFacts.{last_ahead}
+use Rattle.fc_map.proofs.BesideFacts.{last_before}
 use Rattle.fc_map.proofs.EntryFacts.{kept_place}
 use Rattle.fc_map.proofs.map.BTreeMap.last_entry_before.Goals as goal
 
@@ -16,7 +16,7 @@ returns-then-locate_before g c =
       (refl, λ w. refl, tt),
       record {
         writes_back = tt;
-        pair = last_ahead m c.locate_before.new.path _ _ e.sound parts (e.place.0 c.if-locate_before.true);
+        pair = last_before m c.locate_before.new.path _ _ e.sound parts (e.place.0 c.if-locate_before.true);
         same_map = refl;
         map = refl;
         ascending = e.ascending;

@@ -4,7 +4,7 @@ use Rattle.fc_base.proofs.JoinedLaws.{halves_joined}
 use Rattle.fc_base.specs.Halves.{not_below}
 use Rattle.fc_base.specs.Parts.{below}
 use Rattle.fc_map.specs.Entries.{entries}
-use Rattle.fc_map.proofs.BesideFacts.{none_behind}
+use Rattle.fc_map.proofs.BesideFacts.{none_after}
 use Rattle.fc_map.proofs.map.BTreeMap.locate_from.Goals as goal
 
 pub returns-in-Some-clause-none : goal.returns-in-Some-clause-none
@@ -15,4 +15,4 @@ returns-in-Some-clause-none g c = λ no.
     let q = g.Q.Query.sought c.args.key in
     let ascending : IsAscending g.K.Ord.cmp s = rw c.self.view_is at c.self.invariant.0 in
     let parts = halves_joined g.K.Ord.cmp g.Q.Query.order s q g.met.Q.Query.fits ascending in
-    none_behind (below g.Q.Query.order s q) (not_below g.Q.Query.order s q) s parts (rw (← is) (c.find_from.ensures.place.1 no))
+    none_after (below g.Q.Query.order s q) (not_below g.Q.Query.order s q) s parts (rw (← is) (c.find_from.ensures.place.1 no))

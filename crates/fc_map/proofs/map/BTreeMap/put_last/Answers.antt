@@ -3,7 +3,7 @@ use Rattle.fc_base.specs.Sizes.{capacity}
 use Rattle.fc_map.specs.Entries.{entries}
 use Rattle.fc_tree_build.proofs.GrownFacts.{if_err}
 use Rattle.fc_map.proofs.EndFacts.{last_open, room_at_end}
-use Rattle.fc_map.proofs.ExtendFacts.{none_at}
+use Rattle.fc_tree_build.proofs.OrderedFacts.{none_at}
 use Rattle.fc_map.proofs.map.BTreeMap.put_last.Goals as goal
 
 pub insert_in_room-requires : goal.insert_in_room-requires

@@ -6,8 +6,8 @@ use Rattle.fc_tree_cursor.proofs.LeafFacts.{on_length, gap_near}
 use Rattle.fc_map.proofs.EndFacts.{gap_some}
 use Rattle.fc_map.proofs.map.BTreeMap.step_to_previous.Goals as goal
 
-pub go_to_previous-requires-clause-small : goal.go_to_previous-requires-clause-small
-go_to_previous-requires-clause-small g c =
+pub next_back_in_leaf-requires-clause-small : goal.next_back_in_leaf-requires-clause-small
+next_back_in_leaf-requires-clause-small g c =
     let m = c.args.self.now in
     let gap = c.args.gap.now in
     let sound = rw c.self.view_is at c.self.invariant.1 in
@@ -19,9 +19,9 @@ pub returns : goal.returns
 returns g c =
     let m = c.args.self.now in
     let gap = c.args.gap.now in
-    let next = c.go_to_previous.new.gap in
+    let next = c.next_back_in_leaf.new.gap in
     let sound = rw c.self.view_is at c.self.invariant.1 in
-    let same = c.go_to_previous.ensures in
+    let same = c.next_back_in_leaf.ensures in
     let some = gap_some m gap gap sound c.requires.gap c.requires.some in
     let long = sym (on_length next 1) ∙ ap length same in
     let r = gap_near m next 0 sound (omega arith) (subst (IsGapIn m) (sym same) c.requires.gap) in

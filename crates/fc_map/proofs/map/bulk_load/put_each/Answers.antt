@@ -2,8 +2,8 @@ use Rattle.std.proofs.Common.{◌≡◌, ◌∷◌, [], ◌++◌, length, rules,
 use Rattle.std.proofs.lemmas.List.{nil_from_length}
 use Rattle.std.specs.Vec.Iter.{into_iter_items}
 use Rattle.fc_base.specs.Extended.{extended, IsExtendedUpTo}
-use Rattle.fc_tree_merge.proofs.MergedFacts.{moved_on}
-use Rattle.fc_tree_merge.proofs.StableLaws.{extended_more}
+use Rattle.fc_tree_append.proofs.MergedFacts.{moved_on}
+use Rattle.fc_tree_append.proofs.StableLaws.{extended_more}
 use Rattle.fc_map.proofs.ExtendFacts.{up_to}
 use Rattle.fc_map.proofs.map.bulk_load.put_each.Goals as goal
 

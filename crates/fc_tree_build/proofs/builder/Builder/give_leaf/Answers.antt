@@ -2,8 +2,8 @@ use Rattle.std.proofs.Common.{min, ◌+◌, ◌*◌, ◌≤◌, length, ap, arit
 use Rattle.std.specs.Prelude.{vec_capacity}
 use Rattle.std.specs.List.{AllByRecursion}
 use Rattle.fc_base.specs.Sizes.{most_children}
-use Rattle.fc_tree_build.specs.Built.{room_behind}
-use Rattle.fc_tree_node.specs.Node.{IsBlankLeaf}
+use Rattle.fc_tree_build.specs.Built.{room_after}
+use Rattle.fc_tree_node.specs.Node.{IsEmptyLeaf}
 use Rattle.fc_tree_node.proofs.Lists.{all_both}
 use Rattle.fc_tree_build.proofs.SpineFacts.{length_pushed}
 use Rattle.fc_tree_build.proofs.Builders.{kept_room, more_room, two_more, full_room}
@@ -15,8 +15,8 @@ invariant_of-self g c =
     let i = c.self.invariant in
     let p = c.put_spare.ensures in
     let one = length_pushed _ _ _ p.items in
-    let blank = subst (AllByRecursion (λ n. IsBlankLeaf n)) (sym p.items) (all_both (λ n. IsBlankLeaf n) s.leaves.items _ i.3 (c.requires, tt)) in
-    (i.0, i.1, two_more s.last s.limit _ _ _ _ one p.capacity i.2, blank, i.4, i.5)
+    let empty = subst (AllByRecursion (λ n. IsEmptyLeaf n)) (sym p.items) (all_both (λ n. IsEmptyLeaf n) s.leaves.items _ i.3 (c.requires, tt)) in
+    (i.0, i.1, two_more s.last s.limit _ _ _ _ one p.capacity i.2, empty, i.4, i.5)
 
 pub returns-then-len-capacity-clause-kept : goal.returns-then-len-capacity-clause-kept
 returns-then-len-capacity-clause-kept g c =
@@ -27,7 +27,7 @@ pub returns-then-len-capacity-clause-room : goal.returns-then-len-capacity-claus
 returns-then-len-capacity-clause-room g c =
     let s = c.self.inside in
     let now = c.args.self.now in
-    subst (λ l. min l (min (now.room + most_children) (2 * most_children)) ≤ min s.limit (room_behind s.last (length c.put_spare.new.spares.items)))
+    subst (λ l. min l (min (now.room + most_children) (2 * most_children)) ≤ min s.limit (room_after s.last (length c.put_spare.new.spares.items)))
     (ap (λ b. b.limit) c.self.view_is)
     (more_room s.last s.limit now.room (length s.leaves.items) _ s.spine c.self.invariant.0 (ap (λ b. b.room) c.self.view_is)
     (length_pushed _ _ _ c.put_spare.ensures.items))

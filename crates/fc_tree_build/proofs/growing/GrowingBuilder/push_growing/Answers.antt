@@ -29,11 +29,11 @@ pub invariant_of-self-2 : goal.invariant_of-self-2
 invariant_of-self-2 g c =
     let h = c.in_ok-graft_full.ensures in
     grafted_grown c.graft_full.new.spine c.self.inside.spine c.self.inside.before c.in-Some.last c.graft_full.new.last c.args.pair
-    (grown_leaf _ _ _ _ c.in-Some.is c.self.invariant) (as_full c.len.ensures.value c.if-len-lt-CAPACITY.false) c.if-self.false h.blank h.pairs h.levels
+    (grown_leaf _ _ _ _ c.in-Some.is c.self.invariant) (as_full c.len.ensures.value c.if-len-lt-CAPACITY.false) c.if-self.false h.empty h.pairs h.levels
 
 pub returns-clause-pairs : goal.returns-clause-pairs
 returns-clause-pairs g c =
     let h = c.in_ok-graft_full.ensures in
     let grown = grown_leaf _ _ _ _ c.in-Some.is c.self.invariant in
-    grafted_pairs c.graft_full.new.spine c.self.inside.spine c.in-Some.last c.graft_full.new.last c.args.pair c.args.self.now.pairs grown.0.1 h.blank h.pairs
+    grafted_pairs c.graft_full.new.spine c.self.inside.spine c.in-Some.last c.graft_full.new.last c.args.pair c.args.self.now.pairs grown.0.1 h.empty h.pairs
     (all_pairs _ _ c.self.inside.spine _ c.in-Some.is c.self.view_is)

@@ -5,6 +5,6 @@ use Rattle.fc_tree_cursor.proofs.span.Span.next_back_of_any_leaf.Goals as goal
 
 pub returns-then-not-self : goal.returns-then-not-self
 returns-then-not-self g c =
-    let s = c.step_last_run-step in
+    let s = c.next_back_run-step in
     let same = left_found c.self.inside.root.now c.find_missing_ends.new.front s.new.back c.self.invariant.0 s.ensures.ends in
     grind (arith, common_steps, same)

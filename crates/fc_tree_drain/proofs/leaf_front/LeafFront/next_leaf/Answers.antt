@@ -26,8 +26,8 @@ returns-clause-pairs g c =
     let none = nil_from_length (items_or_none s.run) (ap (λ f. f.in_leaf) c.self.view_is ∙ c.requires.used_up) in
     sym (ap (λ f. f.pairs) c.self.view_is) ∙ ap (λ xs. xs ++ after_front s.nodes) none ∙ c.pop_first_pair-pair.ensures.pairs
 
-pub returns-clause-blank : goal.returns-clause-blank
-returns-clause-blank g c = (own_made _ ∙ c.into_slots.ensures, field_made _)
+pub returns-clause-empty : goal.returns-clause-empty
+returns-clause-empty g c = (own_made _ ∙ c.into_slots.ensures, field_made _)
 
 pub returns-clause-leaf : goal.returns-clause-leaf
 returns-clause-leaf g c = open_leaf c.pop_first_pair-pair.new.run c.pop_first_pair-pair.new.stack c.pop_first_pair-pair.ensures.fits

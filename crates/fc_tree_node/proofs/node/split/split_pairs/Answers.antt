@@ -7,7 +7,7 @@ pub returns-then-index-le-MIN_LEN-clause-items : goal.returns-then-index-le-MIN_
 returns-then-index-le-MIN_LEN-clause-items g c =
     let h : c.middle_for-middle.result < length c.args.left.now = grind (arith, nat_tests) in
     let k : c.args.index ≤ c.middle_for-middle.result = grind (arith, nat_tests) in
-    simp (c.insert.ensures.items, c.remove-up.ensures.items, c.move_tail.ensures.other, c.move_tail.ensures.items, c.requires.blank)
+    simp (c.insert.ensures.items, c.remove-up.ensures.items, c.move_tail.ensures.other, c.move_tail.ensures.items, c.requires.empty)
     (cut_insert c.args.left.now c.middle_for-middle.result c.args.index c.remove-up.result c.args.item h k
     (simp c.move_tail.ensures.items at c.remove-up.ensures.value))
 
@@ -15,6 +15,6 @@ pub returns-else-index-le-MIN_LEN-clause-items : goal.returns-else-index-le-MIN_
 returns-else-index-le-MIN_LEN-clause-items g c =
     let h : c.middle_for-middle.result < length c.args.left.now = grind (arith, nat_tests) in
     let k : c.middle_for-middle.result + 1 ≤ c.args.index = grind (arith, nat_tests) in
-    simp (c.insert-else-index-le-MIN_LEN.ensures.items, c.remove-up.ensures.items, c.move_tail.ensures.other, c.move_tail.ensures.items, c.requires.blank)
+    simp (c.insert-else-index-le-MIN_LEN.ensures.items, c.remove-up.ensures.items, c.move_tail.ensures.other, c.move_tail.ensures.items, c.requires.empty)
     (cut_insert_back c.args.left.now c.middle_for-middle.result c.args.index c.remove-up.result c.args.item h k
     (simp c.move_tail.ensures.items at c.remove-up.ensures.value))

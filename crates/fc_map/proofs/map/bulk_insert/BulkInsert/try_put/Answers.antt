@@ -13,65 +13,65 @@ use Rattle.fc_map.proofs.map.bulk_insert.BulkInsert.try_put.Goals.{then-is_empty
 
 pub invariant_of-self : goal.invariant_of-self
 invariant_of-self g c =
-    let behind = c.in_default.ensures.behind refl in
+    let after = c.in_default.ensures.after refl in
     let put = c.in_default.ensures.put refl in
-    (put_last g.K.Ord.cmp c.self.inside.tree.pairs (entries c.self.inside.map) _ c.args.key c.args.value g.met.K.Ord.total c.self.invariant behind put).1
+    (put_last g.K.Ord.cmp c.self.inside.tree.pairs (entries c.self.inside.map) _ c.args.key c.args.value g.met.K.Ord.total c.self.invariant after put).1
 
 pub returns-in_default-clause-put : goal.returns-in_default-clause-put
 returns-in_default-clause-put g c =
-    let behind = c.in_default.ensures.behind refl in
+    let after = c.in_default.ensures.after refl in
     let last = c.in_default.ensures.put refl in
-    (put_last g.K.Ord.cmp c.self.inside.tree.pairs (entries c.self.inside.map) _ c.args.key c.args.value g.met.K.Ord.total c.self.invariant behind last).0
+    (put_last g.K.Ord.cmp c.self.inside.tree.pairs (entries c.self.inside.map) _ c.args.key c.args.value g.met.K.Ord.total c.self.invariant after last).0
     ∙ ap (λ s. put g.K.Ord.cmp s c.args.key c.args.value) c.self.view_is
 
-pub put_if_behind-requires : goal.put_if_behind-requires
-put_if_behind-requires g c = growing_builder_fits (param 0 g.row.K) (param 1 g.row.V) g.row.A g.A.Allocator g.met.A.Handle.small
+pub put_if_after-requires : goal.put_if_after-requires
+put_if_after-requires g c = growing_builder_fits (param 0 g.row.K) (param 1 g.row.V) g.row.A g.A.Allocator g.met.A.Handle.small
 
-pub is_behind-requires : goal.is_behind-requires
-is_behind-requires g c =
+pub is_after-requires : goal.is_after-requires
+is_after-requires g c =
     let kept = subst (λ t. IsBulkInsert g.K.Ord.cmp t.pairs (entries c.self.inside.map)) (sym c.in-Some.ensures.back.1) c.self.invariant in
     (growing_builder_fits (param 0 g.row.K) (param 1 g.row.V) g.row.A g.A.Allocator g.met.A.Handle.small, kept)
 
-pub push_behind-requires : goal.push_behind-requires
-push_behind-requires g c =
+pub push_after-requires : goal.push_after-requires
+push_after-requires g c =
     let order = subst (λ t. IsAscending g.K.Ord.cmp t.pairs) (sym c.in-Some.ensures.back.1) c.self.invariant.0 in
-    (growing_builder_fits (param 0 g.row.K) (param 1 g.row.V) g.row.A g.A.Allocator g.met.A.Handle.small, (order, c.if-is_behind.ensures.behind refl))
+    (growing_builder_fits (param 0 g.row.K) (param 1 g.row.V) g.row.A g.A.Allocator g.met.A.Handle.small, (order, c.if-is_after.ensures.after refl))
 
 pub close-requires : goal.close-requires
 close-requires g c =
     let order = subst (λ t. IsAscending g.K.Ord.cmp t.pairs) (sym c.in-Some.ensures.back.1) c.self.invariant.0 in
     (growing_builder_fits (param 0 g.row.K) (param 1 g.row.V) g.row.A g.A.Allocator g.met.A.Handle.small, order)
 
-pub invariant_of-self-then-is_behind : goal.invariant_of-self-then-is_behind
-invariant_of-self-then-is_behind g c = (c.push_behind.ensures.ascending, inr (c.if-is_behind.ensures.open refl))
+pub invariant_of-self-then-is_after : goal.invariant_of-self-then-is_after
+invariant_of-self-then-is_after g c = (c.push_after.ensures.ascending, inr (c.if-is_after.ensures.open refl))
 
 -- all pairs stand in the tree
-in_tree : (g : given.Over) (c : goal.After-push_behind g) → c.put_if_behind.new.self.pairs ≡ c.args.self.now
+in_tree : (g : given.Over) (c : goal.After-push_after g) → c.put_if_after.new.self.pairs ≡ c.args.self.now
 in_tree g c =
     ap (λ t. t.pairs) c.in-Some.ensures.back.1
-    ∙ all_in_tree c.self.inside.tree.pairs (entries c.self.inside.map) c.args.self.now c.self.view_is (c.if-is_behind.ensures.open refl)
+    ∙ all_in_tree c.self.inside.tree.pairs (entries c.self.inside.map) c.args.self.now c.self.view_is (c.if-is_after.ensures.open refl)
 
-pub returns-then-is_behind-clause-put : goal.returns-then-is_behind-clause-put
-returns-then-is_behind-clause-put g c =
-    put_in_tree g.K.Ord.cmp c.push_behind.result c.args.self.now (c.args.key, c.args.value) (c.in-Some.key, c.in-Some.value)
-    c.put_if_behind.new.self.pairs (entries c.self.inside.map) c.push_behind.new.tree.pairs c.in-Some.ensures.back.0 (in_tree g c)
-    (c.if-is_behind.ensures.open refl) c.push_behind.ensures.put
+pub returns-then-is_after-clause-put : goal.returns-then-is_after-clause-put
+returns-then-is_after-clause-put g c =
+    put_in_tree g.K.Ord.cmp c.push_after.result c.args.self.now (c.args.key, c.args.value) (c.in-Some.key, c.in-Some.value)
+    c.put_if_after.new.self.pairs (entries c.self.inside.map) c.push_after.new.tree.pairs c.in-Some.ensures.back.0 (in_tree g c)
+    (c.if-is_after.ensures.open refl) c.push_after.ensures.put
 
-pub returns-then-is_behind-clause-unchanged : goal.returns-then-is_behind-clause-unchanged
-returns-then-is_behind-clause-unchanged g c =
-    same_in_tree g.K.Ord.cmp c.push_behind.result c.args.self.now (c.args.key, c.args.value) (c.in-Some.key, c.in-Some.value)
-    c.put_if_behind.new.self c.push_behind.new.tree (entries c.self.inside.map)
-    (ap (λ t. t.pairs ++ entries c.self.inside.map) c.in-Some.ensures.back.1 ∙ c.self.view_is) c.push_behind.ensures.unchanged
+pub returns-then-is_after-clause-unchanged : goal.returns-then-is_after-clause-unchanged
+returns-then-is_after-clause-unchanged g c =
+    same_in_tree g.K.Ord.cmp c.push_after.result c.args.self.now (c.args.key, c.args.value) (c.in-Some.key, c.in-Some.value)
+    c.put_if_after.new.self c.push_after.new.tree (entries c.self.inside.map)
+    (ap (λ t. t.pairs ++ entries c.self.inside.map) c.in-Some.ensures.back.1 ∙ c.self.view_is) c.push_after.ensures.unchanged
 
-pub returns-then-is_behind-clause-new_key : goal.returns-then-is_behind-clause-new_key
-returns-then-is_behind-clause-new_key g c =
-    still_new g.K.Ord.cmp c.push_behind.result c.args.self.now (c.args.key, c.args.value) (c.in-Some.key, c.in-Some.value)
-    c.put_if_behind.new.self.pairs c.in-Some.ensures.back.0 (in_tree g c) c.push_behind.ensures.new_key
+pub returns-then-is_after-clause-new_key : goal.returns-then-is_after-clause-new_key
+returns-then-is_after-clause-new_key g c =
+    still_new g.K.Ord.cmp c.push_after.result c.args.self.now (c.args.key, c.args.value) (c.in-Some.key, c.in-Some.value)
+    c.put_if_after.new.self.pairs c.in-Some.ensures.back.0 (in_tree g c) c.push_after.ensures.new_key
 
-pub returns-then-is_behind-clause-error : goal.returns-then-is_behind-clause-error
-returns-then-is_behind-clause-error g c =
-    same_refusal g.K.Ord.cmp c.push_behind.result c.args.self.now (c.args.key, c.args.value) (c.in-Some.key, c.in-Some.value)
-    c.put_if_behind.new.self.pairs (in_tree g c) c.push_behind.ensures.error
+pub returns-then-is_after-clause-error : goal.returns-then-is_after-clause-error
+returns-then-is_after-clause-error g c =
+    same_refusal g.K.Ord.cmp c.push_after.result c.args.self.now (c.args.key, c.args.value) (c.in-Some.key, c.in-Some.value)
+    c.put_if_after.new.self.pairs (in_tree g c) c.push_after.ensures.error
 
 -- all pairs stand in the map
 in_map : (g : given.Over) (c : goal.After-put g) → (c.if-is_empty.self-inside.tree.pairs ≡ []) × (entries c.if-is_empty.self-inside.map ≡ c.args.self.now)

@@ -3,7 +3,7 @@ use denote.Param.{param}
 use Rattle.fc_base.specs.Ascending.{IsAscending}
 use Rattle.arrayvec.proofs.IterLemmas.{rest_runs, rest_runs_back}
 use Rattle.fc_map.specs.Entries.{entries}
-use Rattle.fc_map.proofs.WalkSizes.{walk_fits}
+use Rattle.fc_map_iter.proofs.WalkSizes.{walk_fits}
 use Rattle.fc_map.proofs.map.into_iter.BTreeMapIntoIterator.into_iter.Goals as goal
 
 pub over-requires : goal.over-requires

@@ -4,24 +4,21 @@ use Rattle.fc_map.specs.Lends.{branch}
 use Rattle.fc_tree_cursor.specs.Leaf.{advanced}
 use Rattle.fc_map.specs.Stretches.{iter_stretch}
 use Rattle.fc_map.proofs.EndFacts.{ends_stay, counted_stays, place_on, lent_first}
-use Rattle.fc_map.proofs.ShapeFacts.{gap_stays}
+use Rattle.fc_map.proofs.WrittenFacts.{gap_stays}
 use Rattle.fc_map.proofs.map.iter_mut.IterMut.next.Goals as goal
 
 pub invariant_of-self-lent : goal.invariant_of-self-lent
 invariant_of-self-lent g c = λ w.
     let n = c.step.new.self in
     let m = n.map.now in
-    let s = c.in-Some.ensures.step in
     let path = branch c.as_slice.result.now c.in-Some.way c.in-Some.place in
-    let there = (place_on m n.front _ _ _ _ c.as_slice.ensures.value s.1 s.2).0 in
-    let gap = advanced n.front n.gone in
-    let sound = c.value_at.ensures.sound in (
-      ends_stay m path gap n.back w sound there n.ends,
+    let gap = advanced n.front n.gone in (
+      ends_stay m path gap n.back w n.ends,
       (
-        (gap_stays m path (advanced n.front n.full) w sound there n.run_is).slot,
+        (gap_stays m path (advanced n.front n.full) w n.run_is).0,
         (
-          counted_stays m path gap (n.base + n.gone) w sound there n.ends.0 n.front_counted,
-          (counted_stays m path n.back n.end w sound there n.ends.1 n.back_counted, (n.within, tt)),
+          counted_stays m path gap (n.base + n.gone) w n.ends.0 n.front_counted,
+          (counted_stays m path n.back n.end w n.ends.1 n.back_counted, (n.within, tt)),
         ),
       ),
     )

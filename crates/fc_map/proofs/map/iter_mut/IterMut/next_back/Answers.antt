@@ -3,22 +3,21 @@ use Rattle.fc_map.specs.Entries.{entries}
 use Rattle.fc_tree_cursor.specs.Leaf.{advanced}
 use Rattle.fc_map.specs.Stretches.{iter_stretch}
 use Rattle.fc_map.proofs.EndFacts.{ends_stay, counted_stays, lent_last}
-use Rattle.fc_map.proofs.ShapeFacts.{gap_stays}
+use Rattle.fc_map.proofs.WrittenFacts.{gap_stays}
 use Rattle.fc_map.proofs.map.iter_mut.IterMut.next_back.Goals as goal
 
 pub invariant_of-self-lent : goal.invariant_of-self-lent
 invariant_of-self-lent g c = λ w.
     let n = c.step_back.new.self in
     let m = n.map.now in
-    let place = c.in-Some.place in
-    let sound = c.value_mut.ensures.sound in
-    let there = c.in-Some.ensures.step.0 in (
-      ends_stay m place (advanced n.front n.gone) n.back w sound there n.ends,
+    let path = c.in-Some.place in
+    let gap = advanced n.front n.gone in (
+      ends_stay m path gap n.back w n.ends,
       (
-        (gap_stays m place (advanced n.front n.full) w sound there n.run_is).slot,
+        (gap_stays m path (advanced n.front n.full) w n.run_is).0,
         (
-          counted_stays m place (advanced n.front n.gone) (n.base + n.gone) w sound there n.ends.0 n.front_counted,
-          (counted_stays m place n.back n.end w sound there n.ends.1 n.back_counted, (n.within, tt)),
+          counted_stays m path gap (n.base + n.gone) w n.ends.0 n.front_counted,
+          (counted_stays m path n.back n.end w n.ends.1 n.back_counted, (n.within, tt)),
         ),
       ),
     )

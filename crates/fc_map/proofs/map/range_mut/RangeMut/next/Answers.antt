@@ -4,18 +4,15 @@ use Rattle.fc_map.specs.Lends.{branch}
 use Rattle.fc_tree_cursor.specs.Leaf.{advanced}
 use Rattle.fc_map.specs.Stretches.{stretch}
 use Rattle.fc_map.proofs.EndFacts.{ends_stay, place_on, lent_first}
-use Rattle.fc_map.proofs.ShapeFacts.{gap_stays}
+use Rattle.fc_map.proofs.WrittenFacts.{gap_stays}
 use Rattle.fc_map.proofs.map.range_mut.RangeMut.next.Goals as goal
 
 pub invariant_of-self-lent : goal.invariant_of-self-lent
 invariant_of-self-lent g c = λ w.
     let n = c.step.new.self in
     let m = n.map.now in
-    let s = c.in-Some.ensures.step in
     let path = branch c.as_slice.result.now c.in-Some.way c.in-Some.place in
-    let there = (place_on m n.front _ _ _ _ c.as_slice.ensures.value s.1 s.2).0 in
-    let sound = c.value_at.ensures.sound in
-    (ends_stay m path (advanced n.front n.gone) n.back w sound there n.ends, ((gap_stays m path (advanced n.front n.full) w sound there n.run_is).slot, tt))
+    (ends_stay m path (advanced n.front n.gone) n.back w n.ends, ((gap_stays m path (advanced n.front n.full) w n.run_is).0, tt))
 
 pub returns-in-Some : goal.returns-in-Some
 returns-in-Some g c =

@@ -3,15 +3,14 @@ use Rattle.fc_map.specs.Entries.{entries}
 use Rattle.fc_tree_cursor.specs.Leaf.{advanced}
 use Rattle.fc_map.specs.Stretches.{stretch}
 use Rattle.fc_map.proofs.EndFacts.{ends_stay, lent_last}
-use Rattle.fc_map.proofs.ShapeFacts.{gap_stays}
+use Rattle.fc_map.proofs.WrittenFacts.{gap_stays}
 use Rattle.fc_map.proofs.map.range_mut.RangeMut.next_back.Goals as goal
 
 pub invariant_of-self-lent : goal.invariant_of-self-lent
 invariant_of-self-lent g c = λ w.
-    let n = c.step_back.new.self in (
-      ends_stay n.map.now c.in-Some.place (advanced n.front n.gone) n.back w c.value_mut.ensures.sound c.in-Some.ensures.step.0 n.ends,
-      ((gap_stays n.map.now c.in-Some.place (advanced n.front n.full) w c.value_mut.ensures.sound c.in-Some.ensures.step.0 n.run_is).slot, tt),
-    )
+    let n = c.step_back.new.self in
+    let path = c.in-Some.place in
+    (ends_stay n.map.now path (advanced n.front n.gone) n.back w n.ends, ((gap_stays n.map.now path (advanced n.front n.full) w n.run_is).0, tt))
 
 pub returns-in-Some : goal.returns-in-Some
 returns-in-Some g c =

@@ -4,7 +4,7 @@ use Rattle.arrayvec.proofs.IterLemmas.{rest_runs, rest_runs_back}
 use Rattle.fc_set.proofs.ItemFacts.{keys, keys_length, ascending_keys}
 use denote.Builtin.{unit}
 use denote.Param.{param}
-use Rattle.fc_map.proofs.WalkSizes.{walk_fits}
+use Rattle.fc_map_iter.proofs.WalkSizes.{walk_fits}
 use Rattle.fc_set.proofs.set.iter.BTreeSetIntoIterator.into_iter.Goals as goal
 
 pub into_iter-requires : goal.into_iter-requires

@@ -1,6 +1,6 @@
 use denote.Builtin.{unit}
 use denote.Param.{param}
-use Rattle.fc_map.proofs.WalkSizes.{walk_fits}
+use Rattle.fc_map_iter.proofs.WalkSizes.{walk_fits}
 use Rattle.fc_set.proofs.set.iter.IntoIter.drop.Goals as goal
 
 pub drop-requires : goal.drop-requires

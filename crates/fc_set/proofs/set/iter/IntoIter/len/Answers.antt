@@ -1,8 +1,8 @@
 use Rattle.std.proofs.Common.{◌∙◌}
 use denote.Builtin.{unit}
 use denote.Param.{param}
-use Rattle.fc_map.proofs.WalkSizes.{walk_fits}
-use Rattle.fc_map.proofs.OwnedFacts.{many}
+use Rattle.fc_map_iter.proofs.WalkSizes.{walk_fits}
+use Rattle.fc_map_iter.proofs.OwnedFacts.{many}
 use Rattle.fc_set.proofs.set.iter.IntoIter.len.Goals as goal
 
 pub len-requires : goal.len-requires

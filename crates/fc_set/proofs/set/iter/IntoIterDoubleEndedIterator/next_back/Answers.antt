@@ -1,7 +1,7 @@
 use denote.Builtin.{unit}
 use denote.Param.{param}
-use Rattle.fc_map.proofs.WalkSizes.{walk_fits}
-use Rattle.fc_map.proofs.OwnedFacts.{ended, went, last_given, last_fewer}
+use Rattle.fc_map_iter.proofs.WalkSizes.{walk_fits}
+use Rattle.fc_map_iter.proofs.OwnedFacts.{ended, went, last_given, last_fewer}
 use Rattle.fc_set.proofs.set.iter.IntoIterDoubleEndedIterator.next_back.Goals as goal
 
 pub next_back-requires : goal.next_back-requires

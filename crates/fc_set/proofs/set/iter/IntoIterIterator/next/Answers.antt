@@ -1,7 +1,7 @@
 use denote.Builtin.{unit}
 use denote.Param.{param}
-use Rattle.fc_map.proofs.WalkSizes.{walk_fits}
-use Rattle.fc_map.proofs.OwnedFacts.{ended}
+use Rattle.fc_map_iter.proofs.WalkSizes.{walk_fits}
+use Rattle.fc_map_iter.proofs.OwnedFacts.{ended}
 use Rattle.fc_set.proofs.set.iter.IntoIterIterator.next.Goals as goal
 
 pub next-requires : goal.next-requires

@@ -4,8 +4,8 @@ use Rattle.std.specs.Iterator.{UpTo, at_most}
 use Rattle.std.specs.Iterator.SizeHint.{IsWithinCount}
 use denote.Builtin.{unit}
 use denote.Param.{param}
-use Rattle.fc_map.proofs.WalkSizes.{walk_fits}
-use Rattle.fc_map.proofs.OwnedFacts.{many}
+use Rattle.fc_map_iter.proofs.WalkSizes.{walk_fits}
+use Rattle.fc_map_iter.proofs.OwnedFacts.{many}
 use Rattle.fc_set.proofs.set.iter.IntoIterIterator.size_hint.Goals as goal
 
 pub size_hint-requires : goal.size_hint-requires

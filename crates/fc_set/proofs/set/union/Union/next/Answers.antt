@@ -10,8 +10,8 @@ returns-clause-steps g c =
     (union_step g.T.Ord.cmp g.met.T.Ord.total c.next.result.0 c.next.result.1 c.or.result c.self.inside.sides.left c.self.inside.sides.right c.next.new.self
     c.or.ensures c.next.ensures.ours c.next.ensures.theirs c.next.ensures.firsts))
 
-pub returns-clause-past : goal.returns-clause-past
-returns-clause-past g c =
+pub returns-clause-after : goal.returns-clause-after
+returns-clause-after g c =
     rw (← c.self.view_is) (stands_after g.T.Ord.cmp g.met.T.Ord.total (union g.T.Ord.cmp) c.or.result c.self.inside.sides c.next.new.self
     (union_step g.T.Ord.cmp g.met.T.Ord.total c.next.result.0 c.next.result.1 c.or.result c.self.inside.sides.left c.self.inside.sides.right c.next.new.self
     c.or.ensures c.next.ensures.ours c.next.ensures.theirs c.next.ensures.firsts))

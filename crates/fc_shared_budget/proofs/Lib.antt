@@ -1,2 +1,0 @@
-mod Meters
-mod Shares

@@ -1,4 +1,0 @@
-//! The places of the pairs next to a key, by one search down a tree.
-#![tactic(auto)]
-
-pub mod beside;

@@ -1,2 +1,0 @@
-pub mod StableLaws
-pub mod MergedFacts

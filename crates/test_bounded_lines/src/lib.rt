@@ -1,7 +1,0 @@
-//! Tests of lines that are read off sources which give little at a time, end in a line, fail or are interrupted.
-#![tactic(auto)]
-
-#[cfg(test)]
-mod reading;
-#[cfg(test)]
-mod words;

@@ -1,0 +1,3 @@
+//! Entries next to a key, by each of the four calls: read, written and taken out.
+mod numbers;
+mod texts;

@@ -1,0 +1,56 @@
+//! Examples of the queue of timers, as the pages show them.
+use fc_budget::Budget;
+use fc_timers::TimerQueue;
+use std::alloc::Global;
+use std::mem::size_of;
+use std::test::Fail;
+
+#[test]
+fn timers(rt: HostRuntime) -> Result<(), Fail> {
+    let alloc = rt.alloc();
+    // example: TimerQueue::new, TimerQueue::try_insert, TimerQueue::next_deadline, TimerQueue::pop_due, TimerQueue::len, TimerQueue::is_empty
+    let mut queue = TimerQueue::new(alloc);
+    queue.try_insert(30u64, 'a')?;
+    queue.try_insert(10, 'b')?;
+    assert_eq!(rt; (queue.next_deadline(), queue.len()), (Some(&10), 2));
+    assert_eq!(rt; queue.pop_due(&20), Some((10, 'b')));
+    assert_eq!(rt; (queue.pop_due(&20), queue.is_empty()), (None, false));
+    // end
+    Ok(())
+}
+
+#[test]
+fn timers_by_their_handles(rt: HostRuntime) -> Result<(), Fail> {
+    let alloc = rt.alloc();
+    // example: TimerQueue::reschedule, TimerQueue::cancel, TimerQueue::get
+    let mut queue = TimerQueue::new(alloc);
+    let timer = queue.try_insert(10u64, 'a')?;
+    assert_eq!(rt; queue.reschedule(timer, 40), Some(10));
+    assert_eq!(rt; queue.get(timer).map(|armed| armed.at), Some(40));
+    assert_eq!(rt; queue.cancel(timer), Some((40, 'a')));
+    assert!(rt; queue.get(timer).is_none());
+    // end
+    Ok(())
+}
+
+#[test]
+fn all_that_are_due(rt: HostRuntime) -> Result<(), Fail> {
+    let alloc = rt.alloc();
+    // example: TimerQueue::try_reserve, TimerQueue::capacity, TimerQueue::drain_due
+    let mut queue = TimerQueue::new(alloc);
+    queue.try_reserve(2)?; // so many insertions then take no memory
+    assert!(rt; queue.capacity() >= 2);
+    queue.try_insert(10u64, 1u64)?;
+    queue.try_insert(20, 2)?;
+    let mut sum = 0u64;
+    queue.drain_due(&20, |_at, value| sum = sum.wrapping_add(value));
+    // end
+    assert_eq!(rt; (sum, queue.is_empty()), (3, true));
+    Ok(())
+}
+
+#[test]
+fn bytes(rt: HostRuntime) {
+    assert_eq!(rt; size_of::<TimerQueue<u64, u64>>(), 48);
+    assert_eq!(rt; size_of::<TimerQueue<u64, u64, &Budget<Global>>>(), 56);
+}

@@ -1,0 +1,43 @@
+//! Examples of the cache, as the pages show them.
+use fc_budget::Budget;
+use fc_cache::{Cache, PutError};
+use std::alloc::Global;
+use std::mem::size_of;
+use std::test::Fail;
+
+#[test]
+fn entries(rt: HostRuntime) -> Result<(), Fail> {
+    let alloc = rt.alloc();
+    // example: Cache::new, Cache::try_put, Cache::get, Cache::peek, Cache::len, Cache::is_empty
+    let mut cache = Cache::new(alloc, 2); // at most two entries that cost 1 each
+    cache.try_put(1u64, 'a', 1)?;
+    cache.try_put(2, 'b', 1)?;
+    assert_eq!(rt; cache.get(&1), Some(&'a')); // is used last now
+    cache.try_put(3, 'c', 1)?;
+    assert_eq!(rt; (cache.peek(&2), cache.peek(&1).is_some()), (None, true));
+    assert_eq!(rt; (cache.len(), cache.is_empty()), (2, false));
+    // end
+    Ok(())
+}
+
+#[test]
+fn costs(rt: HostRuntime) -> Result<(), Fail> {
+    let alloc = rt.alloc();
+    // example: Cache::used, Cache::budget, Cache::remove, Cache::pop_oldest
+    let mut cache = Cache::new(alloc, 100); // bytes, say
+    cache.try_put('a', 1u64, 60)?;
+    cache.try_put('b', 2, 30)?;
+    assert_eq!(rt; (cache.used(), cache.budget()), (90, 100));
+    let refused = cache.try_put('c', 3, 101);
+    assert_eq!(rt; refused, Err((PutError::OverBudget, 'c', 3)));
+    assert_eq!(rt; cache.remove(&'b'), Some(2));
+    assert_eq!(rt; cache.pop_oldest(), Some(('a', 1)));
+    // end
+    Ok(())
+}
+
+#[test]
+fn bytes(rt: HostRuntime) {
+    assert_eq!(rt; size_of::<Cache<u64, u64>>(), 192);
+    assert_eq!(rt; size_of::<Cache<u64, u64, &Budget<Global>>>(), 240);
+}

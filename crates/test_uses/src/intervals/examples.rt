@@ -1,0 +1,55 @@
+//! Examples of the map of intervals, as the pages show them.
+use fc_budget::Budget;
+use fc_intervals::IntervalMap;
+use std::alloc::Global;
+use std::mem::size_of;
+use std::test::Fail;
+
+#[test]
+fn stretches(rt: HostRuntime) -> Result<(), Fail> {
+    let alloc = rt.alloc();
+    // example: IntervalMap::new, IntervalMap::put, IntervalMap::get, IntervalMap::get_key_value, IntervalMap::len, IntervalMap::is_empty
+    let mut map = IntervalMap::new(alloc);
+    map.put(10u64..30, 'a')?;
+    map.put(15..20, 'b')?; // 10..15: a, 15..20: b, 20..30: a
+    assert_eq!(rt; (map.get(15), map.get(30)), (Some(&'b'), None));
+    assert_eq!(rt; map.get_key_value(12), Some((10..15, &'a')));
+    assert_eq!(rt; (map.len(), map.is_empty()), (3, false));
+    // end
+    Ok(())
+}
+
+#[test]
+fn cuts(rt: HostRuntime) -> Result<(), Fail> {
+    let alloc = rt.alloc();
+    // example: IntervalMap::cut, IntervalMap::split_at, IntervalMap::join_at, IntervalMap::first, IntervalMap::last
+    let mut map = IntervalMap::new(alloc);
+    map.put(10u64..30, 'a')?;
+    map.cut(14..20)?; // 10..14: a, 20..30: a
+    assert_eq!(rt; map.first(), Some((10..14, &'a')));
+    assert_eq!(rt; map.last(), Some((20..30, &'a')));
+    map.split_at(25)?;
+    assert_eq!(rt; (map.len(), map.join_at(25), map.len()), (3, true, 2));
+    // end
+    Ok(())
+}
+
+#[test]
+fn walks(rt: HostRuntime) -> Result<(), Fail> {
+    let alloc = rt.alloc();
+    // example: IntervalMap::iter, IntervalMap::overlapping, IntervalMap::gaps
+    let mut map = IntervalMap::new(alloc);
+    map.put(10u64..20, 'a')?;
+    map.put(30..40, 'b')?;
+    assert_eq!(rt; (map.iter().len(), map.overlapping(15..30).count()), (2, 1));
+    let mut gaps = map.gaps(0..40);
+    assert_eq!(rt; (gaps.next(), gaps.next()), (Some(0..10), Some(20..30)));
+    // end
+    Ok(())
+}
+
+#[test]
+fn bytes(rt: HostRuntime) {
+    assert_eq!(rt; size_of::<IntervalMap<u64, u64>>(), 56);
+    assert_eq!(rt; size_of::<IntervalMap<u64, u64, &Budget<Global>>>(), 80);
+}
