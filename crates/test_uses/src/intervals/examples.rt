@@ -42,10 +42,8 @@ fn walks(rt: HostRuntime) -> Result<(), Fail> {
     map.put(10u64..20, 'a')?;
     map.put(30..40, 'b')?;
     assert_eq!(rt; map.iter().len(), 2);
-    assert!(rt;
-        map.overlapping(15..30)
-            .any(|(start, _stretch)| *start == 10)
-    ); // 10..20, whole
+    let mut overlapping = map.overlapping(15..30); // 10..20, whole
+    assert!(rt; overlapping.any(|(start, _stretch)| *start == 10));
     let mut gaps = map.gaps(0..40);
     assert_eq!(rt; (gaps.next(), gaps.next()), (Some(0..10), Some(20..30)));
     // end
