@@ -3,6 +3,7 @@
 
   tools/times.py ./test                  runs a command of the toolchain and tells the processor time that its checks took, crate by crate
   tools/times.py --write ./test --anew   and writes it into docs/GATE.md and docs/USING.md, if the command proved all from nothing and ended well
+  tools/times.py --functions CRATE..     checks these crates' tests, and writes the processor seconds of the dearest functions into docs/GATE.md
   tools/times.py --told LOG              what ./test says at its start, of the figures in docs/GATE.md
 
 It looks several times a second at the checks that descend from the command, and at no other on the machine, so each figure lacks a
@@ -20,6 +21,8 @@ import time
 TICKS = os.sysconf("SC_CLK_TCK")
 KINDS = ("proof", "tests", "seed", "edits")
 PAGE, USING = pathlib.Path("docs/GATE.md"), pathlib.Path("docs/USING.md")
+# How many functions docs/GATE.md names.
+DEAREST = 20
 # Of Linux: a process whose parent ends becomes a child of this one, so that its ancestors still lead here.
 PR_SET_CHILD_SUBREAPER = 36
 
@@ -71,6 +74,32 @@ def watched(command):
         sums[key] = sums.get(key, 0) + seconds / 60
     used = resource.getrusage(resource.RUSAGE_CHILDREN)
     return running.returncode, (time.time() - began) / 60, (used.ru_utime + used.ru_stime) / 60, sums
+
+
+def stamped(crate):
+    """Checks a crate's tests; returns the processor seconds of each function, of which the first holds what comes before it."""
+    ctypes.CDLL(None).prctl(PR_SET_CHILD_SUBREAPER, 1, 0, 0, 0)
+    words = ["rt", "check", "--test", "--progress", "--jobs", "1"]
+    running = subprocess.Popen(words, cwd=f"crates/{crate}", stdout=subprocess.PIPE, stderr=subprocess.STDOUT, text=True, errors="replace")
+    seen, seconds, before = {}, {}, 0
+    for line in running.stdout:
+        look(seen)
+        now = sum(it for (_, kind), it in seen.values() if kind == "tests")
+        if found := re.match(r"checked (\S+), \d+ of \d+", line):
+            seconds[found[1]], before = now - before, now
+    return seconds if running.wait() == 0 else {}
+
+
+def functions(crates):
+    """Puts the dearest functions of these crates into the page's table, beside those of other crates that stand there."""
+    rows = re.findall(r"^\| `(\w+)::(\S+)` \| ([\d.]+) \|$", PAGE.read_text(encoding="utf-8"), re.M)
+    of = {f"{crate}::{name}": float(it) for crate, name, it in rows if crate not in crates}
+    for crate in crates:
+        found = stamped(crate)
+        print(f"{crate}: {len(found)} functions, {sum(found.values()):.0f} processor seconds" if found else f"{crate}: it is not proved")
+        of.update(found)
+    dearest = sorted(of, key=lambda it: (-of[it], it))[:DEAREST]
+    written("dearest", ["| Function | Processor seconds |", "|---|---|", *(f"| `{it}` | {of[it]:.1f} |" for it in dearest)])
 
 
 def edits_of(crate):
@@ -146,6 +175,8 @@ def main():
     words = sys.argv[1:]
     if words[:1] == ["--told"] and len(words) == 2:
         return begin(words[1])
+    if words[:1] == ["--functions"] and words[1:]:
+        return functions(words[1:])
     is_written = words[:1] == ["--write"]
     if not words[is_written:]:
         sys.exit(__doc__)

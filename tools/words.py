@@ -12,7 +12,7 @@ from paging.quoted import QUOTATION
 from paging.sources import ended, top, wrong
 
 MOST_WORDS, MOST_CHARACTERS, MOST_IN_CELL = 15_400, 100, 25
-WRITTEN = re.compile(r"(?ms)^<!-- (figures|bytes|by crate|table: [^\n]+|stack|laws|costs|crates|promises|by hand|std|calls on one key|definitions below|definitions of proofs) -->\n.*?^<!-- end(?: of \1)? -->$")
+WRITTEN = re.compile(r"(?ms)^<!-- (figures|bytes|by crate|dearest|table: [^\n]+|stack|laws|costs|crates|promises|by hand|std|calls on one key|definitions below|definitions of proofs) -->\n.*?^<!-- end(?: of \1)? -->$")
 NUMBERED = re.compile(r"(?m)^\| \d+ \| (?=`crates/.* \| \d+ \|)")  # rows that tools/statements.py numbers
 COMPARED = re.compile(r"(?m)^ {6}(?:was |is  |new |gone) .*$")  # clauses that tools/changes.py lists
 FENCED = re.compile(r"(?ms)^```.*?^```$")
