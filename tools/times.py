@@ -117,15 +117,17 @@ def table(sums):
 
 
 def told(rows):
-    """Returns the one row of figures: of this commit, kit and machine."""
+    """Returns the rows of figures: those of earlier runs, and that of this commit, kit and machine."""
     status, minutes, whole, sums = rows
     by = [f"{sum(it for (_, kind), it in sums.items() if kind == one):.0f}" for one in KINDS]
     git = lambda *words: subprocess.run(["git", *words], capture_output=True, text=True, check=False).stdout.strip()
     kit = re.search(r"rattle-kit-\w+", subprocess.run(["rt", "version"], capture_output=True, text=True, check=False).stdout)
     named = git("rev-parse", "--short", "HEAD"), kit[0] if kit else "", str(os.cpu_count())
+    earlier = re.findall(r"(?m)^\| [0-9a-f]{7,} \| .*$", PAGE.read_text(encoding="utf-8"))
     return [
         "| Commit | Kit | Cores | Minutes | Processor minutes | of these: proofs | tests | seeds | trials |",
         "|---|---|---|---|---|---|---|---|---|",
+        *earlier,
         f"| {' | '.join(named)} | {minutes:.0f} | {whole:.0f} | {' | '.join(by)} |",
     ]
 
