@@ -1,11 +1,11 @@
 #!/usr/bin/env python3
-"""Looks for comparisons and moves that would not reach the caller's count, which no contract across crates can refuse. Needed where it tells a body: that
-hands its count not on, or compares without one.
+"""Looks for comparisons, moves and requests that would not reach the caller's count, which no contract across crates can refuse. Needed where it tells a
+body: that hands its count not on, or compares without one.
 
 Only the calls of `Slots`, and of the cells under it, add moves. A new `Count` is made by public calls that take none, on a caller's behalf, and by those
 of OWN. A function that takes a caller's count calls no such function, nor a public one round it, without handing that count on. Keys are compared by
-`compare` alone, which counts, but in those of UNCOUNTED. Neither `Count` nor `add_moves` goes by another name. Each place where it is otherwise is told,
-and the status is 1. Tests and probes are not looked at, and no operator: where `<` stands between two keys is not seen."""
+`compare` alone, which counts, but in those of UNCOUNTED. Requests are added by ASKERS alone, and whoever takes an `Asked` begins no other. Neither of these
+types, nor what adds to one, goes by another name. Each place where it is otherwise is told, and the status is 1. Tests and probes are not looked at, and no operator: where `<` stands between two keys is not seen."""
 import re
 import sys
 
@@ -14,6 +14,8 @@ from wrong_bodies.records import crates
 from wrong_bodies.stated import CLAUSE, TOKEN, clause_end
 
 MOVERS = {"fc_base/src/count.rt", "fc_tree_slots/src/cells.rt", "fc_tree_slots/src/cells/moves.rt", "fc_tree_slots/src/slots.rt"}
+# What asks for a node's memory, and adds the request.
+ASKERS = {"fc_base/src/asked.rt", "fc_tree_slots/src/slots.rt"}
 # What compares keys without a count: methods, by a dot or their trait.
 COMPARES = r"[.:] (?:order_of|cmp|partial_cmp)\b"
 UNCOUNTED = {
@@ -50,6 +52,7 @@ UNCOUNTED = {
 SEEN = {
     "begins": ["let mine = &mut Count::new();", "let mine = &mut <Count>::new();", "let begin = Count::new; let mine = begin();"],
     "compares": ["query.order_of(key)", "Query::order_of(&query, key)"],
+    "asks": ["let mine = &mut Asked::new();", "let begin = Asked::new; let mine = begin();"],
 }
 # The tree's moves of children, which nobody reads, are counted for nobody.
 CHILDREN = {"fc_tree_slots/src/children.rt", "fc_tree_slots/src/children/push.rt"}
@@ -85,7 +88,9 @@ class Function:
         self.counts = {*re.findall(r"(\w+) : & (?:' \w+ )?mut Count\b", header)}
         said = " ".join(self.body)
         self.begins = len(re.findall(r"\bCount (?:> )?: : new\b", said)) if self.path != "fc_base/src/count.rt" else 0
-        self.renames = bool(re.search(r"\b(?:Count|add_moves) as\b|\btype \w+[^;]* Count ;", said))
+        self.takes_asked = bool(re.search(r": & (?:' \w+ )?mut Asked\b", header))
+        self.asks = len(re.findall(r"\bAsked (?:> )?: : new\b", said)) if self.path != "fc_base/src/asked.rt" else 0
+        self.renames = bool(re.search(r"\b(?:Count|add_moves|Asked|add_request) as\b|\btype \w+[^;]* (?:Count|Asked) ;", said))
         self.compares = bool(re.search(COMPARES, said))
         self.uncounted = {name for name, given in self.calls() if not self.counts & {*given}}
 
@@ -144,8 +149,8 @@ def renamed(path, read):
     """What a file calls by another name."""
     handed = [re.split(r" use | as ", it)[1:] for *_, it in read.exported]
     named = [(name, what) for name, what in read.used if "Rattle." not in what] + [(name, what) for what, name in handed]
-    found = [what for name, what in named if what.rpartition("::")[2] in ("Count", "add_moves") and not what.endswith(f"::{name}") and what != name]
-    return found + ["Count"] * bool(re.search(r"\btype \w+[^;]* Count ;", " ".join(read.kept)))
+    found = [what for name, what in named if what.rpartition("::")[2] in ("Count", "add_moves", "Asked", "add_request") and not what.endswith(f"::{name}") and what != name]
+    return found + ["a count"] * bool(re.search(r"\btype \w+[^;]* (?:Count|Asked) ;", " ".join(read.kept)))
 
 
 def main():
@@ -167,8 +172,12 @@ def main():
     for it in functions:
         if "add_moves" in it.body and it.path not in MOVERS:
             wrong.append(f"{it.path}: moves are added outside fc_tree_slots, in {it.name}")
+        if "add_request" in it.body and it.path not in ASKERS:
+            wrong.append(f"{it.path}: a request is added where none is made, in {it.name}")
+        if it.takes_asked and it.asks:
+            wrong.append(f"{it.path}: {it.name} takes requests to count, and begins a count of its own")
         if it.renames:
-            wrong.append(f"{it.path}: Count or add_moves goes by another name, in {it.name}")
+            wrong.append(f"{it.path}: a count, or what adds to one, goes by another name, in {it.name}")
         if it.compares and it.path.startswith("fc_") and it.name not in UNCOUNTED.get(it.path, ()):
             wrong.append(f"{it.path}: keys are compared without a count, in {it.name}")
         if it.begins and (not it.is_pub or it.counts) and it.name not in OWN.get(it.path, ()):

@@ -2,6 +2,7 @@
 //! keys are searched by, and counts.
 #![tactic(auto)]
 
+pub mod asked;
 pub mod boxed;
 pub mod count;
 mod given_back;
@@ -12,6 +13,7 @@ pub mod rc;
 pub mod try_clone;
 pub mod try_reserve_error;
 
+pub use asked::Asked;
 pub use boxed::{FallibleBox, TryBox};
 pub use count::{Count, compare};
 pub use handle::Handle;

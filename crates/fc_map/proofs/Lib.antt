@@ -19,3 +19,4 @@ pub mod BulkInsertSizes
 pub mod RangeParts
 pub mod RangedFacts
 pub mod PopIfFacts
+pub mod RequestFacts

@@ -8,6 +8,7 @@ pub mod Reservation
 pub mod Fewest
 pub mod Unique
 pub mod Ready
+pub mod Requests
 pub mod KeptPlace
 pub mod Entry
 pub mod ReadyEntry

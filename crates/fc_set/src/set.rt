@@ -1,9 +1,10 @@
 //! The ordered set: a map whose values take no memory.
-ghost use Rattle.std.specs.Prelude.{◌≡◌, ◌+◌, ◌<◌, ◌↔◌, ◌⊎◌, [], length, IsTrue, IsSome, IsErr, IfOk, IfErr, OnOk, OnErr, None};
+ghost use Rattle.std.specs.Prelude.{◌≡◌, ◌+◌, ◌<◌, ◌≤◌, ◌↔◌, ◌⊎◌, [], length, IsTrue, IsSome, IsErr, IfOk, IfErr, OnOk, OnErr, None};
 ghost use Rattle.std.specs.Option.{option_map};
 ghost use Rattle.fc_base.specs.Growth.{MayGrowRefuse};
 ghost use Rattle.fc_map.specs.Counts.{IsBounded};
 ghost use Rattle.fc_map.specs.Full.{TakesNode};
+ghost use Rattle.fc_map.specs.Requests.{insertion_requests, HasFewRequests};
 ghost use Rattle.fc_map.specs.Fewest.{HasFewestMoves};
 ghost use Rattle.fc_map.specs.Entries.{IsSoundMap, now_pair, now_value, passed_in};
 ghost use Rattle.fc_set.specs.Items.{items, item_at, without, AreAscending, with_item, with_replaced};
@@ -30,7 +31,7 @@ mod union;
 mod whole;
 
 pub use difference::Difference;
-use fc_base::{Count, Handle, Query, TryReserveError, compare};
+use fc_base::{Asked, Count, Handle, Query, TryReserveError, compare};
 use fc_map::map::{BTreeMap, for_sets};
 pub use intersection::Intersection;
 pub use iter::{IntoIter, Iter, Range};
@@ -192,7 +193,41 @@ impl<T: Ord + Drop, A: Handle> BTreeSet<T, A> {
         ensures moved { OnOk result (item_at T.cmp (items self.old) item ≡ None → count.old.moves < count.new.moves) }
         ensures bounded { IsBounded (length (items self.new)) count.old count.new }
     {
-        match self.map.try_insert_counted(item, (), count) {
+        self.try_insert_asked(item, count, &mut Asked::new())
+    }
+
+    /// `try_insert_counted`, with its requests for memory added to `asked`: none where an equal item is there or the leaf has room, one for a first leaf, and
+    /// else one for a leaf and two for each inner node that the insertion takes; where it is refused, no more.
+    ///
+    /// # Errors
+    /// As `try_insert`.
+    pub fn try_insert_asked(
+        &mut self,
+        item: T,
+        count: &mut Count,
+        asked: &mut Asked,
+    ) -> Result<bool, (T, TryReserveError)>
+        ensures new { IfOk result (λ new. IsTrue new ↔ (item_at T.cmp (items self.old) item ≡ None)) }
+        ensures put { IfOk result (λ _. items self.new ≡ with_item T.cmp (items self.old) item) }
+        ensures unchanged { IfErr result (λ _. self.new ≡ self.old) }
+        ensures new_item { IfErr result (λ _. item_at T.cmp (items self.old) item ≡ None) }
+        ensures back { IfErr result (λ e. e.0 ≡ item) }
+        ensures error { IfErr result (λ e. MayGrowRefuse (length (items self.old)) e.1) }
+        ensures only_full { OnErr result (length (items self.old) < usize.MAX → TakesNode T.cmp item self.old) }
+        ensures full { item_at T.cmp (items self.old) item ≡ None → length (items self.old) ≡ usize.MAX → IsErr result }
+        ensures ascending { AreAscending T.cmp (items self.new) }
+        ensures sound { IsSoundMap self.new }
+        ensures comparisons { count.new.comparisons ≡ count.old.comparisons + passed_in T.cmp item self.old }
+        ensures no_move { IsErr result ⊎ IsSome (item_at T.cmp (items self.old) item) → count.new.moves ≡ count.old.moves }
+        ensures moved { OnOk result (item_at T.cmp (items self.old) item ≡ None → count.old.moves < count.new.moves) }
+        ensures bounded { IsBounded (length (items self.new)) count.old count.new }
+        ensures requests { OnOk result (item_at T.cmp (items self.old) item ≡ None → asked.new.requests ≡ asked.old.requests + insertion_requests T.cmp item self.old) }
+        ensures at_most { asked.new.requests ≤ asked.old.requests + insertion_requests T.cmp item self.old }
+        ensures none { IsSome (item_at T.cmp (items self.old) item) → asked.new.requests ≡ asked.old.requests }
+        ensures room { ¬ TakesNode T.cmp item self.old → asked.new.requests ≤ asked.old.requests }
+        ensures few { HasFewRequests (length (items self.old) + 1) asked.old asked.new }
+    {
+        match self.map.try_insert_asked(item, (), count, asked) {
             Ok(old) => return Ok(old.is_none()),
             Err((item, _, e)) => return Err((item, e)),
         }

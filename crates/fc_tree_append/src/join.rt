@@ -6,7 +6,7 @@ ghost use Rattle.fc_tree_node.specs.Measures.{height_of};
 ghost use Rattle.fc_tree_node.specs.Tree.{entries, IsSoundMap, IsSoundWithin};
 
 use crate::grafting::graft;
-use fc_base::{Count, Handle, TryReserveError};
+use fc_base::{Asked, Count, Handle, TryReserveError};
 use fc_tree_insertion::insertion::grow;
 use fc_tree_insertion::new_nodes::try_spares;
 use fc_tree_insertion::spares::Spares;
@@ -39,7 +39,11 @@ pub(crate) fn try_join<K: Drop, V: Drop, A: Handle>(
     };
     let our_height = height(left);
     let their_height = height(right);
-    let spares = try_spares(alloc, our_height.abs_diff(their_height) + 1)?;
+    let spares = try_spares(
+        alloc,
+        our_height.abs_diff(their_height) + 1,
+        &mut Asked::new(),
+    )?;
     let Some(left) = ours.take() else {
         unreachable!()
     };

@@ -1,15 +1,14 @@
 -- A new builder, and one whose last leaf was full.
-use Rattle.std.proofs.Common.{◌≡◌, ℕ, zero, suc, ◌+◌, ◌-◌, ◌*◌, ◌/◌, ◌^◌, ◌<◌, ◌≤◌, ◌⊎◌, inl, inr, min, List, [], ◌∷◌, ◌++◌, reverse, length, refl, sym, ap}
+use Rattle.std.proofs.Common.{◌≡◌, ℕ, zero, suc, ◌+◌, ◌-◌, ◌*◌, ◌/◌, ◌^◌, ◌<◌, ◌≤◌, ◌⊎◌, inl, inr, min, List, [], ◌∷◌, ◌++◌, length, refl, sym, ap}
 use Rattle.std.proofs.Common.{◌∙◌, subst, arith, append_assoc, append-nil, length-append, Option, Some, None, ◌↔◌}
 use Rattle.std.proofs.lemmas.Bool.{cases_lt}
-use Rattle.std.proofs.lemmas.List.{reverse-append}
 use Rattle.std.specs.Option.{option_to_list}
 use Rattle.std.specs.List.{AllByRecursion}
 use Rattle.fc_base.specs.Sizes.{capacity, most_children, most_levels}
 use Rattle.fc_base.proofs.Sizes.{digits_enough}
 use Rattle.fc_tree_node.specs.declared.node.Node.{Node}
 use Rattle.fc_tree_node.specs.Node.{own_pairs, pairs_of, IsLeaf, IsSound, IsEmptyLeaf}
-use Rattle.fc_tree_node.proofs.Lists.{all_front, all_back, all_both}
+use Rattle.fc_tree_node.proofs.Lists.{all_front, all_back}
 use Rattle.fc_tree_node.proofs.Pairs.{leaf_pairs}
 use Rattle.fc_tree_drain.specs.Opened.{before_back}
 use Rattle.fc_tree_build.specs.Spares.{inner_above, inner_for, IsEnough, leaves_for}
@@ -40,11 +39,6 @@ made_enough n leaves made e f = within (cases_lt leaves 2)
 
 pub made_room : (n leaves made : ℕ) → leaves ≡ leaves_for n → made ≡ min leaves 2 → min n (most_children * made - 1) ≡ min n (2 * most_children - 1)
 made_room n leaves made e f = let all = leaves_enough n in omega arith
-
-pub all_reversed : {X : Type 0} (P : X → Type 0) (xs : List X) → AllByRecursion P xs → AllByRecursion P (reverse xs)
-all_reversed P [] a = tt
-all_reversed P (x ∷ xs) a =
-    subst (AllByRecursion P) (sym (reverse-append (x ∷ []) xs)) (all_both P (reverse xs) (x ∷ []) (all_reversed P xs a.1) (a.0, tt))
 
 -- with two leaves, or with enough for so many pairs: where there is none there is no pair
 pub no_pair : (count n : ℕ) → (2 ≤ count) ⊎ (n ≤ most_children * count - 1) → count ≡ 0 → n ≡ 0

@@ -3,13 +3,15 @@ ghost use Rattle.std.specs.Prelude.{◌≡◌, min, ◌+◌, ◌-◌, ◌*◌, �
 ghost use Rattle.fc_base.specs.Sizes.{most_children};
 ghost use Rattle.fc_tree_node.specs.Node.{IsEmptyLeaf};
 ghost use Rattle.fc_tree_node.specs.Tree.{entries, IsSoundMap};
-ghost use Rattle.fc_tree_build.specs.Spares.{leaves_for};
+ghost use Rattle.fc_tree_node.specs.Requests.{list_requests};
+ghost use Rattle.fc_tree_build.specs.Spares.{leaves_for, inner_for};
 
-use crate::spares::{inner_count, leaf_count, put_spare, take_spare, try_inner_nodes, try_leaves};
+use crate::spares::{inner_count, leaf_count, take_spare};
 use crate::spine::{Spine, attach, close, put_pair};
-use fc_base::{Handle, TryReserveError};
+use fc_base::{Asked, Handle, TryReserveError};
 use fc_tree_drain::stack::Stack;
 use fc_tree_node::node::{CAPACITY, Node};
+use fc_tree_node::nodes::{put_spare, try_inner_nodes, try_leaves};
 use fc_tree_split::rebalancing::rebalance_right;
 use std::alloc::Global;
 use std::marker::Model;
@@ -70,7 +72,7 @@ impl<K: Drop, V: Drop, A: Handle> Builder<K, V, A> {
         ensures error { IfErr result (λ e. e ≡ TryReserveError.AllocError) }
         ensures none { n ≡ 0 → IsOk result }
     {
-        Self::try_with_leaves(alloc, n, leaf_count(n))
+        Self::try_with_leaves(alloc, n, leaf_count(n), &mut Asked::new())
     }
 
     /// A builder of no pair with room for `n` once leaves are given to it: each inner node that they can need is made now, and just two
@@ -83,7 +85,7 @@ impl<K: Drop, V: Drop, A: Handle> Builder<K, V, A> {
         ensures error { IfErr result (λ e. e ≡ TryReserveError.AllocError) }
         ensures none { n ≡ 0 → IsOk result }
     {
-        Self::try_with_leaves(alloc, n, leaf_count(n).min(MADE_LEAVES))
+        Self::try_with_leaves(alloc, n, leaf_count(n).min(MADE_LEAVES), &mut Asked::new())
     }
 
     // A builder of no pair, with so many leaves and the inner nodes that `n` pairs can need.
@@ -91,15 +93,18 @@ impl<K: Drop, V: Drop, A: Handle> Builder<K, V, A> {
         alloc: A,
         n: usize,
         count: usize,
+        asked: &mut Asked,
     ) -> Result<Builder<K, V, A>, TryReserveError>
         requires enough { (2 ≤ count) ⊎ (n ≤ most_children * count - 1) }
         requires few { count ≤ leaves_for n }
         ensures ok { IfOk result (λ b. (b.pairs ≡ []) × (b.limit ≡ n) × (b.room ≡ min n (most_children * count - 1))) }
         ensures error { IfErr result (λ e. e ≡ TryReserveError.AllocError) }
         ensures none { n ≡ 0 → IsOk result }
+        ensures requests { IfOk result (λ _. asked.new.requests ≡ asked.old.requests + (list_requests 1 count + list_requests 2 (inner_for n))) }
+        ensures at_most { asked.new.requests ≤ asked.old.requests + (list_requests 1 count + list_requests 2 (inner_for n)) }
     {
-        let mut leaves = try_leaves(alloc, count)?;
-        let inner = try_inner_nodes(alloc, inner_count(n))?;
+        let mut leaves = try_leaves(alloc, count, asked)?;
+        let inner = try_inner_nodes(alloc, inner_count(n), asked)?;
         let last = leaves.pop();
         Ok(Builder {
             spine: Stack::new(),

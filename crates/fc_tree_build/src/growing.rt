@@ -8,11 +8,11 @@ ghost use Rattle.fc_tree_node.specs.Tree.{entries, IsSoundMap};
 ghost use Rattle.fc_tree_build.specs.Built.{IsAfterLast};
 ghost use Rattle.fc_tree_build.specs.Spine.{IsLastPair, IsSpine};
 
-use crate::spares::try_inner_nodes;
 use crate::spine::{Spine, attach, close, has_room, last_of, needed, put_in_room, put_pair};
-use fc_base::{Handle, TryReserveError};
+use fc_base::{Asked, Handle, TryReserveError};
 use fc_tree_drain::stack::Stack;
 use fc_tree_node::node::{CAPACITY, Node};
+use fc_tree_node::nodes::try_inner_nodes;
 use fc_tree_node::path::MAX_STEPS;
 use fc_tree_split::rebalancing::rebalance_right;
 use std::alloc::Global;
@@ -210,7 +210,7 @@ fn first_leaf<K: Drop, V: Drop, A: Handle>(
     ensures ok { IfOk result (λ leaf. (own_pairs leaf ≡ pair ∷ []) × IsLeaf leaf) }
     ensures error { IfErr result (λ e. (e.0 ≡ pair) × (e.1 ≡ TryReserveError.AllocError)) }
 {
-    match Node::try_leaf(alloc) {
+    match Node::try_leaf(alloc, &mut Asked::new()) {
         Ok(mut leaf) => {
             put_pair(&mut leaf, pair);
             Ok(leaf)
@@ -238,7 +238,7 @@ fn graft_full<K: Drop, V: Drop, A: Handle>(
     if !has_room(spine) {
         return graft_above(alloc, spine, last, pair);
     }
-    match Node::try_leaf(alloc) {
+    match Node::try_leaf(alloc, &mut Asked::new()) {
         Ok(empty) => {
             let leaf = mem::replace(last, empty);
             put_in_room(spine, leaf, pair);
@@ -287,7 +287,7 @@ fn try_leaf_and_inner<K: Drop, V: Drop, A: Handle>(
     if inner >= MAX_STEPS {
         return Err(TryReserveError::AllocError);
     }
-    let leaf = Node::try_leaf(alloc)?;
-    let spares = try_inner_nodes(alloc, inner)?;
+    let leaf = Node::try_leaf(alloc, &mut Asked::new())?;
+    let spares = try_inner_nodes(alloc, inner, &mut Asked::new())?;
     Ok((leaf, spares))
 }

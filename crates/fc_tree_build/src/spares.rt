@@ -1,53 +1,10 @@
-//! Nodes that hold nothing, all made before the first is used.
-ghost use Rattle.std.specs.Prelude.{◌≡◌, ℕ, ◌^◌, ◌<◌, ◌≤◌, [], ◌∷◌, ◌++◌, length, IfOk, IfErr, IsOk, vec_capacity};
-ghost use Rattle.std.specs.List.{AllByRecursion};
+//! How many nodes a tree takes, and one of those that were made ahead.
+ghost use Rattle.std.specs.Prelude.{◌≡◌, ℕ, ◌^◌, ◌<◌, ◌≤◌, [], ◌∷◌, ◌++◌, length, vec_capacity};
 ghost use Rattle.fc_base.specs.Sizes.{most_children};
-ghost use Rattle.fc_tree_node.specs.Node.{IsEmptyLeaf, IsEmptyInner};
 ghost use Rattle.fc_tree_build.specs.Spares.{leaves_for, inner_above, inner_for};
 
-use fc_base::{Handle, TryReserveError};
+use fc_base::Handle;
 use fc_tree_node::node::{CAPACITY, Node};
-
-/// As many leaves.
-///
-/// # Errors
-/// `AllocError` if one of them or the list of them is refused, never where there are none. Nothing is then left after.
-pub(crate) fn try_leaves<K: Drop, V: Drop, A: Handle>(
-    alloc: A,
-    count: usize,
-) -> Result<Vec<Node<K, V, A>, A>, TryReserveError>
-    ensures ok { IfOk result (λ v. (length v.items ≡ count) × AllByRecursion (λ b. IsEmptyLeaf b) v.items) }
-    ensures capacity { IfOk result (λ v. count ≤ vec_capacity v) }
-    ensures error { IfErr result (λ e. e ≡ TryReserveError.AllocError) }
-    ensures none { count ≡ 0 → IsOk result }
-{
-    let mut leaves = Vec::with_capacity(alloc, count)?;
-    for _i in 0..count {
-        leaves.push(Node::try_leaf(alloc)?)?;
-    }
-    // They are used from the last on, and an allocator often puts what it makes one after another.
-    leaves.reverse();
-    Ok(leaves)
-}
-
-/// As many inner nodes.
-///
-/// # Errors
-/// `AllocError` if one of them or the list of them is refused, never where there are none. Nothing is then left after.
-pub(crate) fn try_inner_nodes<K: Drop, V: Drop, A: Handle>(
-    alloc: A,
-    count: usize,
-) -> Result<Vec<Node<K, V, A>, A>, TryReserveError>
-    ensures ok { IfOk result (λ v. (length v.items ≡ count) × AllByRecursion (λ b. IsEmptyInner b) v.items) }
-    ensures error { IfErr result (λ e. e ≡ TryReserveError.AllocError) }
-    ensures none { count ≡ 0 → IsOk result }
-{
-    let mut nodes = Vec::with_capacity(alloc, count)?;
-    for _i in 0..count {
-        nodes.push(Node::try_inner(alloc)?)?;
-    }
-    Ok(nodes)
-}
 
 /// Takes one of the nodes out.
 pub(crate) fn take_spare<K, V, A: Handle>(spares: &mut Vec<Node<K, V, A>, A>) -> Node<K, V, A>
@@ -59,20 +16,6 @@ pub(crate) fn take_spare<K, V, A: Handle>(spares: &mut Vec<Node<K, V, A>, A>) ->
         unreachable!()
     };
     node
-}
-
-/// Puts a node among the others, in room that there is.
-pub(crate) fn put_spare<K: Drop, V: Drop, A: Handle>(
-    spares: &mut Vec<Node<K, V, A>, A>,
-    node: Node<K, V, A>,
-)
-    requires { length spares.old.items < vec_capacity spares.old }
-    ensures items { spares.new.items ≡ spares.old.items ++ node ∷ [] }
-    ensures capacity { vec_capacity spares.old ≤ vec_capacity spares.new }
-{
-    let Ok(_) = spares.push(node) else {
-        unreachable!()
-    };
 }
 
 /// How many leaves `n` pairs need at most.

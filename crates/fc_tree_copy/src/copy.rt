@@ -6,7 +6,7 @@ ghost use Rattle.fc_base.specs.Copies.{MayRefusePair};
 ghost use Rattle.fc_tree_node.specs.Node.{own_pairs, children_of, pairs_of, IsLeaf, IsLevelled};
 ghost use Rattle.fc_tree_copy.specs.Copy.{AreSame, MayRefuseNodes, IsCopy, IsCopyUpTo};
 
-use fc_base::{Count, Handle, TryClone, TryReserveError};
+use fc_base::{Asked, Count, Handle, TryClone, TryReserveError};
 use fc_tree_node::node::{CAPACITY, Node};
 use fc_tree_slots::children::Children;
 use fc_tree_slots::slots::Slots;
@@ -48,7 +48,7 @@ fn try_copy_own<K: TryClone, V: TryClone, A: Handle>(
         let children = None;
         return Ok(Node { pairs, children });
     }
-    let children = Some(Children::try_new(alloc)?);
+    let children = Some(Children::try_new(alloc, &mut Asked::new())?);
     Ok(Node { pairs, children })
 }
 
@@ -62,7 +62,7 @@ fn try_copy_pairs<K: TryClone, V: TryClone, A: Handle>(
     ensures copied { IfOk result (λ copies. AllZip (AreSame K.same V.same) pairs.now copies) }
     ensures error { IfErr result (MayRefuseNodes (MayRefusePair K.may_refuse V.may_refuse) pairs.now) }
 {
-    let mut copies = Slots::try_new(alloc)?;
+    let mut copies = Slots::try_new(alloc, &mut Asked::new())?;
     for i in 0..pairs.len() {
         let pair = try_copy_pair(pairs.get(i))?;
         copies.push(pair, &mut Count::new());

@@ -91,6 +91,9 @@ module _ {K V Z : Type 0} where
   pub needed_least : (p : List ℕ) (n : Node K V Z) → cascade p n ≤ nodes_needed p n
   needed_least p n = by_fullness p n (cascade p n ≤ nodes_needed p n) (λ f. rw f (omega arith)) (λ f. rw f (omega arith))
 
+  pub needed_few : (p : List ℕ) (n : Node K V Z) → nodes_needed p n ≤ length p + 1
+  needed_few p n = let w = cascade_most p n in by_fullness p n (nodes_needed p n ≤ length p + 1) (λ f. rw f (omega arith)) (λ f. rw f (omega arith))
+
   needed_positive : (p : List ℕ) (n : Node K V Z) → 0 < length p → 1 ≤ nodes_needed p n → 1 ≤ cascade p n
   needed_positive p n l h = by_fullness p n (1 ≤ cascade p n) (λ f. let w = cascade_whole p n f in omega arith)
       (λ f. let q = needed_part p n (cascade_part p n f) in omega arith)

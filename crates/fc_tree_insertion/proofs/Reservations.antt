@@ -9,7 +9,7 @@ use Rattle.fc_tree_node.specs.Node.{pairs_of}
 use Rattle.fc_tree_node.specs.Tree.{IsSoundMap}
 use Rattle.fc_tree_node.proofs.DepthFacts.{deep_root, deep_full}
 use Rattle.fc_tree_insertion.specs.Cascade.{all_full, nodes_needed}
-use Rattle.fc_tree_insertion.specs.Reservation.{IsOverDepth}
+use Rattle.fc_tree_insertion.specs.Reservation.{IsOverDepth, IsFewestOver}
 use Rattle.fc_tree_insertion.proofs.Cascades.{by_fullness, cascade_part, cascade_whole, first_full, needed_whole, needed_part}
 
 -- A tree of fewer pairs has fewer levels below its root.
@@ -19,6 +19,21 @@ below_levels h levels n pairs deep fewer over = within (cases_lt h levels)
     within : (h < levels) ⊎ (levels ≤ h) → h < levels
     within (inl lt) = lt
     within (inr le) = let big : least_children ^ levels ≤ least_children ^ h = pow-le-pow_right (lit< tt) le in absurd (omega arith)
+
+-- No number of levels is the fewest that is greater than another that is enough.
+no_more : (l m n : ℕ) → IsFewestOver l n → IsFewestOver m n → m ≤ l
+no_more l m n a b = within (cases_lt l m)
+  where
+    within : (l < m) ⊎ (m ≤ l) → m ≤ l
+    within (inl lt) =
+        let big : least_children ^ l ≤ least_children ^ (m - 1) = pow-le-pow_right (lit< tt) (omega arith) in
+        let least = b.2 (omega arith) in
+        absurd (omega arith)
+    within (inr le) = le
+
+-- One number of levels is the fewest.
+pub fewest_is : (l m n : ℕ) → IsFewestOver l n → IsFewestOver m n → l ≡ m
+fewest_is l m n a b = let above = no_more l m n a b in let below = no_more m l n b a in omega arith
 
 module _ {K V Z : Type 0} (root : Node K V Z) (path : List ℕ) (sound : IsSoundMap (Some root)) (steps : length path ≡ sound.0 + 1) where
   module _ (levels pairs : ℕ) (fewer : length (pairs_of root) < pairs) (over : IsOverDepth levels pairs) where

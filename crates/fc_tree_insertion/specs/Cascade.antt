@@ -1,9 +1,13 @@
 -- How far up an insertion splits nodes, and how many nodes it needs.
-use Rattle.std.specs.Prelude.{◌≡◌, ℕ, suc, ◌+◌, ◌≤◌, ◌*◌, ◌==◌, Bool, true, ◌&&◌, if◌then◌else◌, List, [], ◌∷◌, length, Option, Some, None}
+use Rattle.std.specs.Prelude.{◌≡◌, ℕ, suc, ◌+◌, ◌-◌, ◌≤◌, ◌*◌, ◌==◌, Bool, true, ◌&&◌, if◌then◌else◌, List, [], ◌∷◌, length, Option, Some, None}
 use Rattle.fc_base.specs.Sizes.{capacity, most_split_moves}
 use Rattle.fc_tree_node.specs.declared.node.Node.{Node}
 use Rattle.fc_tree_node.specs.Node.{own_pairs, child_at, IsEmptyLeaf}
 pub use Rattle.fc_tree_node.specs.Leaf.{leaf_at}
+
+-- How many requests so many nodes take of which one is a leaf: one for the leaf, and two for each inner node. None takes none.
+abbrev pub requests_for : ℕ → ℕ
+requests_for nodes = 2 * nodes - 1
 
 module _ {K V Z : Type 0} where
   -- Whether each node of the path is full.

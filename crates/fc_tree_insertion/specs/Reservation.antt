@@ -1,5 +1,5 @@
 -- Nodes taken ahead for several insertions.
-use Rattle.std.specs.Prelude.{ℕ, ◌+◌, ◌*◌, ◌-◌, ◌^◌, ◌<◌, nat_le, ◌&&◌, if◌then◌else◌}
+use Rattle.std.specs.Prelude.{ℕ, ◌+◌, ◌*◌, ◌-◌, ◌^◌, ◌<◌, ◌≤◌, nat_le, ◌&&◌, if◌then◌else◌}
 use Rattle.fc_base.specs.Sizes.{least_children, most_levels}
 use Rattle.fc_base.specs.declared.try_reserve_error.TryReserveError.{TryReserveError}
 use Rattle.fc_base.specs.declared.try_reserve_error.TryReserveError.TheVariants.{CapacityOverflow, AllocError}
@@ -12,6 +12,10 @@ pub record Places : Type 0 where
 -- A tree of at most n pairs has fewer levels below its root than so many.
 abbrev pub IsOverDepth : ℕ → ℕ → Type 0
 IsOverDepth levels n = n < 2 * least_children ^ levels
+
+-- The fewest such, but at least one.
+abbrev pub IsFewestOver : ℕ → ℕ → Type 0
+IsFewestOver levels n = (1 ≤ levels) × IsOverDepth levels n × (1 < levels → 2 * least_children ^ (levels - 1) ≤ n)
 
 -- The one error by which a reservation of n insertions into m pairs may be refused: either the pairs that are then there, or a node for each
 -- insertion at each level of the highest tree, can't be counted.

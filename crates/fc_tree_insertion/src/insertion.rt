@@ -11,7 +11,7 @@ ghost use Rattle.fc_tree_insertion.specs.NewPair.{steps_after, path_after, IsPut
 use crate::new_nodes::NewNodes;
 use crate::spares::Spares;
 use crate::steps_to_new_pair::lead_to_new_pair;
-use fc_base::{Count, Handle, TryReserveError};
+use fc_base::{Asked, Count, Handle, TryReserveError};
 use fc_tree_node::lend::child_in;
 use fc_tree_node::node::{CAPACITY, Node};
 use fc_tree_node::path::Path;
@@ -224,6 +224,7 @@ pub fn first_leaf<K: Drop, V: Drop, A: Handle>(
     alloc: A,
     pair: (K, V),
     count: &mut Count,
+    asked: &mut Asked,
 ) -> Result<Node<K, V, A>, (K, V, TryReserveError)>
     ensures pairs { IfOk result (λ root. pairs_of root ≡ pair ∷ []) }
     ensures sound { IfOk result (λ root. IsSoundRoot 0 root) }
@@ -232,8 +233,9 @@ pub fn first_leaf<K: Drop, V: Drop, A: Handle>(
     ensures comparisons { count.new.comparisons ≡ count.old.comparisons }
     ensures moves { IfOk result (λ _. count.new.moves ≡ count.old.moves + 1) }
     ensures no_move { IfErr result (λ _. count.new.moves ≡ count.old.moves) }
+    ensures requests { asked.new.requests ≡ asked.old.requests + 1 }
 {
-    match Node::try_leaf(alloc) {
+    match Node::try_leaf(alloc, asked) {
         Ok(mut root) => {
             root.insert_leaf(0, pair, count);
             Ok(root)

@@ -1,13 +1,13 @@
 //! The nodes that an insertion needs, made before a pair moves.
-ghost use Rattle.std.specs.Prelude.{◌≡◌, ◌+◌, ◌-◌, ◌<◌, ◌≤◌, length, IfOk, IfErr, OnErr, IsOkAnd};
+ghost use Rattle.std.specs.Prelude.{◌≡◌, ◌+◌, ◌-◌, ◌*◌, ◌<◌, ◌≤◌, length, IfOk, IfErr, OnErr, IsOkAnd};
 ghost use Rattle.fc_base.specs.Sizes.{capacity, most_levels};
 ghost use Rattle.fc_tree_node.specs.Node.{own_pairs, IsLevelled};
 ghost use Rattle.fc_tree_node.specs.Path.{IsPath};
-ghost use Rattle.fc_tree_insertion.specs.Cascade.{leaf_at, cascade, nodes_needed};
+ghost use Rattle.fc_tree_insertion.specs.Cascade.{leaf_at, cascade, nodes_needed, requests_for};
 
 use crate::leaf::has_room;
 use crate::spares::Spares;
-use fc_base::{Handle, TryReserveError};
+use fc_base::{Asked, Handle, TryReserveError};
 use fc_tree_node::node::{CAPACITY, Node};
 use std::alloc::Global;
 use std::marker::Model;
@@ -56,6 +56,7 @@ pub fn try_new_nodes<K: Drop, V: Drop, A: Handle>(
     alloc: A,
     root: &Node<K, V, A>,
     path: &[u8],
+    asked: &mut Asked,
 ) -> Result<NewNodes<K, V, A>, TryReserveError>
     requires some { 0 < length path.now }
     requires short { length path.now ≤ most_levels }
@@ -69,6 +70,10 @@ pub fn try_new_nodes<K: Drop, V: Drop, A: Handle>(
     ensures leaf_with_room { length (own_pairs (leaf_at path.now root.now)) < capacity → IsOkAnd result (λ made. made ≡ 0) }
     ensures full { OnErr result (length (own_pairs (leaf_at path.now root.now)) ≡ capacity) }
     ensures error { IfErr result (λ e. e ≡ TryReserveError.AllocError) }
+
+    // A leaf takes one request and each inner node two; a refusal ends them.
+    ensures requests { IfOk result (λ _. asked.new.requests ≡ asked.old.requests + requests_for (nodes_needed path.now root.now)) }
+    ensures at_most { asked.new.requests ≤ asked.old.requests + requests_for (nodes_needed path.now root.now) }
 {
     let needed = count_needed(root, path);
     if needed == 0 {
@@ -77,8 +82,8 @@ pub fn try_new_nodes<K: Drop, V: Drop, A: Handle>(
             inner: Spares::new(),
         });
     }
-    let leaf = Node::try_leaf(alloc)?;
-    let inner = try_spares(alloc, needed - 1)?;
+    let leaf = Node::try_leaf(alloc, asked)?;
+    let inner = try_spares(alloc, needed - 1, asked)?;
     Ok(NewNodes {
         leaf: Some(leaf),
         inner,
@@ -93,14 +98,17 @@ pub fn try_new_nodes<K: Drop, V: Drop, A: Handle>(
 pub fn try_spares<K: Drop, V: Drop, A: Handle>(
     alloc: A,
     count: usize,
+    asked: &mut Asked,
 ) -> Result<Spares<K, V, A>, TryReserveError>
     requires { count ≤ most_levels }
     ensures len { IfOk result (λ spares. spares ≡ count) }
     ensures error { IfErr result (λ e. e ≡ TryReserveError.AllocError) }
+    ensures requests { IfOk result (λ _. asked.new.requests ≡ asked.old.requests + 2 * count) }
+    ensures at_most { asked.new.requests ≤ asked.old.requests + 2 * count }
 {
     let mut spares = Spares::new();
     for _i in 0..count {
-        let node = Node::try_inner(alloc)?;
+        let node = Node::try_inner(alloc, asked)?;
         spares.push(node);
     }
     Ok(spares)

@@ -3,12 +3,14 @@ ghost use Rattle.std.specs.Prelude.{◌≡◌, ◌+◌, ◌-◌, ◌<◌, ◌≤
 ghost use Rattle.fc_base.specs.Sizes.{most_levels};
 ghost use Rattle.fc_tree_node.specs.Node.{IsLevelled, IsEmptyLeaf, IsEmptyInner};
 ghost use Rattle.fc_tree_node.specs.Path.{IsPath};
+ghost use Rattle.fc_tree_node.specs.Requests.{list_requests};
 ghost use Rattle.fc_tree_insertion.specs.Cascade.{nodes_needed};
 
 use crate::new_nodes::{NewNodes, count_needed};
 use crate::spares::Spares;
-use fc_base::{Handle, TryReserveError};
+use fc_base::{Asked, Handle, TryReserveError};
 use fc_tree_node::node::Node;
+use fc_tree_node::nodes::try_inner_nodes;
 use std::alloc::Global;
 use std::marker::Model;
 
@@ -35,37 +37,23 @@ impl<K, V, A: Handle> Model for NodePool<K, V, A> {
 }
 
 impl<K: Drop, V: Drop, A: Handle> NodePool<K, V, A> {
-    /// As many nodes. None of them takes no memory.
+    /// As many nodes. None of them takes no memory; else a request is made for their list, and two for each.
     ///
     /// # Errors
     /// `AllocError` if the list or a node is refused. Nothing is then left after.
-    pub fn try_new(alloc: A, count: usize) -> Result<NodePool<K, V, A>, TryReserveError>
+    pub fn try_new(
+        alloc: A,
+        count: usize,
+        asked: &mut Asked,
+    ) -> Result<NodePool<K, V, A>, TryReserveError>
         ensures len { IfOk result (λ pool. pool ≡ count) }
         ensures none { count ≡ 0 → IsOk result }
         ensures error { IfErr result (λ e. e ≡ TryReserveError.AllocError) }
+        ensures requests { IfOk result (λ _. asked.new.requests ≡ asked.old.requests + list_requests 2 count) }
+        ensures at_most { asked.new.requests ≤ asked.old.requests + list_requests 2 count }
     {
-        if count == 0 {
-            let nodes = Vec::new(alloc);
-            return Ok(NodePool { nodes });
-        }
-        let mut pool = NodePool {
-            nodes: Vec::with_capacity(alloc, count)?,
-        };
-        for _i in 0..count {
-            let node = Node::try_inner(alloc)?;
-            pool.try_put(node)?;
-        }
-        Ok(pool)
-    }
-
-    // Adds a node.
-    fn try_put(&mut self, node: Node<K, V, A>) -> Result<(), TryReserveError>
-        requires { IsEmptyInner node }
-        ensures len { IfOk result (λ _. self.new ≡ self.old + 1) }
-        ensures error { IfErr result (λ e. e ≡ TryReserveError.AllocError) }
-    {
-        self.nodes.push(node)?;
-        Ok(())
+        let nodes = try_inner_nodes(alloc, count, asked)?;
+        Ok(NodePool { nodes })
     }
 
     // Takes a node out.

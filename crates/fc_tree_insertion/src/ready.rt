@@ -6,12 +6,12 @@ ghost use Rattle.fc_tree_node.specs.Depth.{HasFewMoves};
 ghost use Rattle.fc_tree_node.specs.Path.{IsPath, before_gap, after_gap};
 ghost use Rattle.fc_tree_node.specs.Tree.{IsSoundMap};
 ghost use Rattle.fc_tree_insertion.specs.NewPair.{IsPutAt};
-ghost use Rattle.fc_tree_insertion.specs.Cascade.{leaf_at, nodes_needed};
+ghost use Rattle.fc_tree_insertion.specs.Cascade.{leaf_at, nodes_needed, requests_for};
 
 use crate::insertion::insert;
 use crate::new_nodes::{NewNodes, try_new_nodes};
 use crate::spares::Spares;
-use fc_base::{Count, Handle, TryReserveError};
+use fc_base::{Asked, Count, Handle, TryReserveError};
 use fc_tree_node::node::Node;
 use fc_tree_node::path::Path;
 
@@ -24,6 +24,7 @@ pub fn try_nodes_at<K: Drop, V: Drop, A: Handle>(
     alloc: A,
     root: &Node<K, V, A>,
     path: &Path,
+    asked: &mut Asked,
 ) -> Result<NewNodes<K, V, A>, TryReserveError>
     requires sound { IsSoundMap (Some root.now) }
     requires path { IsPath path.now root.now }
@@ -32,8 +33,10 @@ pub fn try_nodes_at<K: Drop, V: Drop, A: Handle>(
     ensures error { IfErr result (λ e. e ≡ TryReserveError.AllocError) }
     ensures leaf { OnErr result (capacity ≤ length (pairs_of root.now)) }
     ensures full { OnErr result (length (own_pairs (leaf_at path.now root.now)) ≡ capacity) }
+    ensures requests { IfOk result (λ _. asked.new.requests ≡ asked.old.requests + requests_for (nodes_needed path.now root.now)) }
+    ensures at_most { asked.new.requests ≤ asked.old.requests + requests_for (nodes_needed path.now root.now) }
 {
-    try_new_nodes(alloc, root, path.as_slice())
+    try_new_nodes(alloc, root, path.as_slice(), asked)
 }
 
 /// Puts a pair into the gap of a sound tree that the path leads to, by the nodes that this takes. The path then leads to the pair.
@@ -75,6 +78,7 @@ pub fn try_insert<K: Drop, V: Drop, A: Handle>(
     path: &mut Path,
     pair: (K, V),
     count: &mut Count,
+    asked: &mut Asked,
 ) -> Result<(), (K, V, TryReserveError)>
     requires sound { IsSoundMap (Some root.old) }
     requires path { IsPath path.old root.old }
@@ -95,8 +99,10 @@ pub fn try_insert<K: Drop, V: Drop, A: Handle>(
     ensures no_move { OnErr result (count.new.moves ≡ count.old.moves) }
     ensures moves { OnOk result (HasFewMoves (length (pairs_of root.new)) count.old count.new) }
     ensures moved { OnOk result (count.old.moves < count.new.moves) }
+    ensures requests { OnOk result (asked.new.requests ≡ asked.old.requests + requests_for (nodes_needed path.old root.old)) }
+    ensures at_most { asked.new.requests ≤ asked.old.requests + requests_for (nodes_needed path.old root.old) }
 {
-    match try_nodes_at(alloc, root, path) {
+    match try_nodes_at(alloc, root, path, asked) {
         Ok(new_nodes) => {
             insert_ready(root, path, pair, new_nodes, count);
             Ok(())
@@ -111,11 +117,13 @@ pub fn try_insert<K: Drop, V: Drop, A: Handle>(
 /// `AllocError` if it is refused.
 pub fn try_first_node<K: Drop, V: Drop, A: Handle>(
     alloc: A,
+    asked: &mut Asked,
 ) -> Result<NewNodes<K, V, A>, TryReserveError>
     ensures ok { IfOk result (λ made. made ≡ 1) }
     ensures error { IfErr result (λ e. e ≡ TryReserveError.AllocError) }
+    ensures requests { asked.new.requests ≡ asked.old.requests + 1 }
 {
-    let leaf = Node::try_leaf(alloc)?;
+    let leaf = Node::try_leaf(alloc, asked)?;
     Ok(NewNodes {
         leaf: Some(leaf),
         inner: Spares::new(),

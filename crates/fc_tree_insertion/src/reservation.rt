@@ -3,13 +3,14 @@ ghost use Rattle.std.specs.Prelude.{◌≡◌, ℕ, ◌+◌, ◌-◌, ◌*◌, �
 ghost use Rattle.fc_base.specs.Sizes.{least_children, most_levels};
 ghost use Rattle.fc_tree_node.specs.Node.{pairs_of, IsLevelled};
 ghost use Rattle.fc_tree_node.specs.Path.{IsPath};
+ghost use Rattle.fc_tree_node.specs.Requests.{list_requests};
 ghost use Rattle.fc_tree_node.specs.Tree.{IsSoundMap};
 ghost use Rattle.fc_tree_insertion.specs.Cascade.{nodes_needed};
-ghost use Rattle.fc_tree_insertion.specs.Reservation.{IsOverDepth, reservation_error};
+ghost use Rattle.fc_tree_insertion.specs.Reservation.{IsOverDepth, IsFewestOver, reservation_error};
 
 use crate::new_nodes::NewNodes;
 use crate::pool::NodePool;
-use fc_base::{Handle, TryReserveError};
+use fc_base::{Asked, Handle, TryReserveError};
 use fc_tree_node::node::{MIN_LEN, Node};
 use fc_tree_node::path::{MAX_STEPS, Path};
 use std::alloc::Global;
@@ -70,12 +71,33 @@ impl<K: Drop, V: Drop, A: Handle> Reservation<K, V, A> {
         ensures error { IfErr result (λ e. e ≡ reservation_error pairs insertions) }
         ensures overflow { reservation_error pairs insertions ≡ TryReserveError.CapacityOverflow → IsErr result }
     {
+        Self::try_new_asked(alloc, pairs, insertions, &mut Asked::new())
+    }
+
+    /// `try_new`, with its requests for memory added to `asked`: one for the list of the nodes, and two for each; where it is refused, no more.
+    ///
+    /// # Errors
+    /// As `try_new`.
+    pub fn try_new_asked(
+        alloc: A,
+        pairs: usize,
+        insertions: usize,
+        asked: &mut Asked,
+    ) -> Result<Reservation<K, V, A>, TryReserveError>
+        ensures places { IfOk result (λ reservation. reservation.places ≡ insertions) }
+        ensures pairs { IfOk result (λ reservation. reservation.pairs ≡ pairs + insertions) }
+        ensures none { insertions ≡ 0 → IsOk result }
+        ensures error { IfErr result (λ e. e ≡ reservation_error pairs insertions) }
+        ensures overflow { reservation_error pairs insertions ≡ TryReserveError.CapacityOverflow → IsErr result }
+        ensures requests { IfOk result (λ _. (levels : ℕ) → IsFewestOver levels (pairs + insertions) → asked.new.requests ≡ asked.old.requests + list_requests 2 (insertions * levels)) }
+        ensures at_most { (levels : ℕ) → IsFewestOver levels (pairs + insertions) → asked.new.requests ≤ asked.old.requests + list_requests 2 (insertions * levels) }
+    {
         if insertions > usize::MAX - pairs || insertions > usize::MAX / MAX_STEPS {
             return Err(TryReserveError::CapacityOverflow);
         }
         let pairs = pairs + insertions;
         let levels = levels_over(pairs);
-        let pool = NodePool::try_new(alloc, insertions * levels)?;
+        let pool = NodePool::try_new(alloc, insertions * levels, asked)?;
         Ok(Reservation {
             pool,
             places: insertions,

@@ -16,3 +16,4 @@ pub mod Sizes
 pub mod Lent
 pub mod Ways
 pub mod Bare
+pub mod Requested

@@ -16,3 +16,4 @@ pub mod LeafGap
 pub mod Lends
 pub mod Way
 pub mod Bare
+pub mod Requests

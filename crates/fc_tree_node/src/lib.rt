@@ -4,4 +4,5 @@
 pub mod descent;
 pub mod lend;
 pub mod node;
+pub mod nodes;
 pub mod path;

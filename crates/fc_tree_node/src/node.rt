@@ -11,7 +11,7 @@ ghost use Rattle.std.specs.Prelude.{◌≡◌, ◌+◌, ◌<◌, ◌≤◌, [], 
 ghost use Rattle.fc_base.specs.Sizes.{capacity, most_children};
 ghost use Rattle.fc_tree_node.specs.Node.{own_pairs, children_of, child_at, IsLeaf, IsEmptyLeaf, IsEmptyInner};
 
-use fc_base::{Handle, TryReserveError};
+use fc_base::{Asked, Handle, TryReserveError};
 use fc_tree_slots::children::Children;
 use fc_tree_slots::slots::Slots;
 use std::alloc::Global;
@@ -44,11 +44,12 @@ impl<K: Drop, V: Drop, A: Handle> Node<K, V, A> {
     ///
     /// # Errors
     /// `AllocError` if it is refused.
-    pub fn try_leaf(alloc: A) -> Result<Node<K, V, A>, TryReserveError>
+    pub fn try_leaf(alloc: A, asked: &mut Asked) -> Result<Node<K, V, A>, TryReserveError>
         ensures ok { IfOk result (λ b. IsEmptyLeaf b) }
         ensures error { IfErr result (λ e. e ≡ TryReserveError.AllocError) }
+        ensures requests { asked.new.requests ≡ asked.old.requests + 1 }
     {
-        let pairs = Slots::try_new(alloc)?;
+        let pairs = Slots::try_new(alloc, asked)?;
         Ok(Node {
             pairs,
             children: None,
@@ -59,12 +60,14 @@ impl<K: Drop, V: Drop, A: Handle> Node<K, V, A> {
     ///
     /// # Errors
     /// `AllocError` if one is refused. Nothing is then left after.
-    pub fn try_inner(alloc: A) -> Result<Node<K, V, A>, TryReserveError>
+    pub fn try_inner(alloc: A, asked: &mut Asked) -> Result<Node<K, V, A>, TryReserveError>
         ensures ok { IfOk result (λ b. IsEmptyInner b) }
         ensures error { IfErr result (λ e. e ≡ TryReserveError.AllocError) }
+        ensures requests { IfOk result (λ _. asked.new.requests ≡ asked.old.requests + 2) }
+        ensures at_most { asked.new.requests ≤ asked.old.requests + 2 }
     {
-        let pairs = Slots::try_new(alloc)?;
-        let children = Children::try_new(alloc)?;
+        let pairs = Slots::try_new(alloc, asked)?;
+        let children = Children::try_new(alloc, asked)?;
         Ok(Node {
             pairs,
             children: Some(children),

@@ -7,7 +7,7 @@ ghost use Rattle.fc_base.specs.Sizes.{most_children};
 ghost use Rattle.fc_tree_slots.specs.Lends.{lends_child};
 
 use crate::slots::Slots;
-use fc_base::{Count, Handle};
+use fc_base::{Asked, Count, Handle};
 use std::alloc::{AllocError, Global};
 use std::marker::Model;
 
@@ -38,11 +38,12 @@ impl<T, A: Handle> Children<T, A> {
     ///
     /// # Errors
     /// `AllocError` if the room is refused.
-    pub fn try_new(alloc: A) -> Result<Self, AllocError>
-        ensures { IfOk result (λ c. c ≡ []) }
+    pub fn try_new(alloc: A, asked: &mut Asked) -> Result<Self, AllocError>
+        ensures empty { IfOk result (λ c. c ≡ []) }
+        ensures requests { asked.new.requests ≡ asked.old.requests + 1 }
     {
         Ok(Children {
-            slots: Slots::try_new(alloc)?,
+            slots: Slots::try_new(alloc, asked)?,
         })
     }
 

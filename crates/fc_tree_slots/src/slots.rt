@@ -8,8 +8,9 @@ ghost use Rattle.fc_tree_slots.specs.Lends.{lends_slot};
 ghost use Rattle.fc_tree_slots.specs.Cells.{row, HasRow};
 
 use crate::cells::Cells;
-use fc_base::Count;
+use fc_base::asked::add_request;
 use fc_base::count::add_moves;
+use fc_base::{Asked, Count};
 use std::alloc::{AllocError, Allocator, Global};
 use std::marker::Model;
 
@@ -49,13 +50,16 @@ impl<T: Drop, const N: usize, A: Allocator> Drop for Slots<T, N, A> {
 }
 
 impl<T, const N: usize, A: Allocator> Slots<T, N, A> {
-    /// An empty list, with the room for `N` items taken in one request.
+    /// An empty list, with the room for `N` items taken in one request, which is added to `asked`. Items without size need no room, and their request,
+    /// which is not made, counts as one.
     ///
     /// # Errors
     /// `AllocError` if the room is refused.
-    pub fn try_new(alloc: A) -> Result<Self, AllocError>
-        ensures { IfOk result (λ s. s ≡ []) }
+    pub fn try_new(alloc: A, asked: &mut Asked) -> Result<Self, AllocError>
+        ensures empty { IfOk result (λ s. s ≡ []) }
+        ensures requests { asked.new.requests ≡ asked.old.requests + 1 }
     {
+        add_request(asked);
         Ok(Slots {
             cells: Cells::try_new(alloc, N)?,
             len: 0,

@@ -3,6 +3,7 @@ use Rattle.std.proofs.Common.{◌≡◌, ℕ, zero, suc, ◌+◌, ◌<◌, ◌�
 use Rattle.std.proofs.Common.{arith, add-one, append-nil, length-append, Option, Some, None, Result, Ok, Err, IfOk, inl, inr}
 use Rattle.std.specs.Prelude.{slice_set, slice_range}
 use Rattle.std.specs.List.{AllByRecursion}
+use Rattle.std.specs.Result.{OnOk}
 use Rattle.std.proofs.lemmas.List.{length-drop}
 use Rattle.fc_base.specs.Sizes.{most_height}
 use Rattle.fc_tree_node.specs.Weave.{weave, before_list}
@@ -22,7 +23,7 @@ use Rattle.fc_tree_node.proofs.Siblings.{around_one}
 use Rattle.fc_tree_split.specs.Cut.{IsEmpty, IsCutPath, IsCutInTwo}
 use Rattle.fc_tree_node.proofs.Formed.{leaf_or_inner}
 use Rattle.fc_tree_node.specs.Measures.{height_of}
-use Rattle.fc_tree_node.proofs.MeasureFacts.{levelled_height}
+use Rattle.fc_tree_node.proofs.MeasureFacts.{levelled_height, no_children}
 use Rattle.fc_tree_split.proofs.Borders.{leaf_alike, inner_alike, first_join, border_closed, child_here, levelled_bordered}
 use Rattle.fc_tree_split.specs.declared.rebalancing.Border.TheVariants.{Left, Right}
 
@@ -303,6 +304,7 @@ module _ {K V : Type 0} where
       pub below : ℕ
       pub levels : IsLevelled below (child_at n 0)
       pub lower : height_of (child_at n 0) < height_of n
+      pub higher : height_of n ≡ height_of (child_at n 0) + 1
       pub there : 0 < length (children_of n)
 
     pub first_child : (h : ℕ) (n : Node K V Z) → (IsLeaf n → ⊥) → IsLevelled h n → IsFirst n
@@ -311,8 +313,20 @@ module _ {K V : Type 0} where
         let b = (child_below h n 0 l (omega arith)).1 in
         let x = levelled_height (suc h) n l in
         let y = levelled_height h (child_at n 0) b in
-        record { below = h; levels = b; lower = omega arith; there = omega arith }
+        record { below = h; levels = b; lower = omega arith; higher = omega arith; there = omega arith }
+
+    pub child_lower : (h : ℕ) (n b : Node K V Z) → (IsLeaf n → ⊥) → IsLevelled h n → b ≡ child_at n 0 → height_of n ≡ height_of b + 1
+    child_lower h n b up l e = rw e (first_child h n up l).higher
 
     -- the root of a map
     pub root_sound : (root : Option (Node K V Z)) (b : Node K V Z) → root ≡ Some b → IsSoundMap root → (h : ℕ) × (h ≤ most_height) × IsSoundRoot h b
     root_sound root b e s = subst IsSoundMap e s
+
+-- What holds anyway holds where there is a value.
+pub anyway : {T E P : Type 0} (r : Result T E) → P → OnOk r P
+anyway (Ok x) p = p
+anyway (Err e) p = tt
+
+-- A leaf has no level below it.
+pub leaf_low : {K V Z : Type 0} (n : Node K V Z) → IsLeaf n → height_of n ≡ 0
+leaf_low n leaf = no_children n (leaf_children n leaf)

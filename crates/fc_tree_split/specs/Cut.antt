@@ -1,8 +1,9 @@
 -- A tree that is cut in two along a path.
-use Rattle.std.specs.Prelude.{◌≡◌, ℕ, zero, suc, List, [], ◌∷◌, Some, None, ◌⊎◌}
+use Rattle.std.specs.Prelude.{◌≡◌, ℕ, zero, suc, ◌+◌, ◌*◌, List, [], ◌∷◌, Some, None, ◌⊎◌}
 use Rattle.fc_tree_node.specs.declared.node.Node.{Node}
 use Rattle.fc_tree_node.specs.Node.{own_pairs, children_of, IsEmptyLeaf}
 use Rattle.fc_tree_node.specs.LeafGap.{IsLeafGap}
+use Rattle.fc_tree_node.specs.Measures.{height_of}
 use Rattle.fc_tree_node.specs.Place.{IsPlace}
 use Rattle.fc_tree_node.specs.Tree.{Map, entries}
 use Rattle.fc_tree_node.specs.TreePlace.{before_gap_in, after_gap_in, before_pair_in, after_pair_in, pair_in}
@@ -26,6 +27,11 @@ module _ {K V Z : Type 0} where
   abbrev pub IsLeafGapIn : List ℕ → Map K V Z → Type 0
   IsLeafGapIn path None = ⊥
   IsLeafGapIn path (Some root) = IsLeafGap path root
+
+  -- How many requests a cut makes: one for a leaf, and two for a node at each level above. There is nothing to be cut where there is no root.
+  abbrev pub border_requests : Map K V Z → ℕ
+  border_requests None = 0
+  border_requests (Some root) = 2 * height_of root + 1
 
   -- One map was cut into two others: at a pair, into those before it, and the pair with those after it; at a gap, into those before and those after it.
   pub record IsCutInTwo (path : List ℕ) (whole left right : Map K V Z) : Type 0 where

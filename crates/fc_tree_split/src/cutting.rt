@@ -1,15 +1,16 @@
 //! Cuts of a tree in two, along a path.
-ghost use Rattle.std.specs.Prelude.{◌≡◌, ℕ, ◌+◌, ◌*◌, ◌<◌, ◌≤◌, [], ◌++◌, length, Some, IfOk, IfErr, IsTrue, ◌↔◌, slice_index};
+ghost use Rattle.std.specs.Prelude.{◌≡◌, ℕ, ◌+◌, ◌*◌, ◌<◌, ◌≤◌, [], ◌++◌, length, Some, IfOk, IfErr, OnOk, IsTrue, ◌↔◌, slice_index};
+ghost use Rattle.fc_tree_node.specs.Measures.{height_of};
 ghost use Rattle.fc_tree_node.specs.Node.{own_pairs, children_of, pairs_of, IsLevelled, IsSoundRoot};
 ghost use Rattle.fc_tree_node.specs.Path.{IsPath, after_gap};
 ghost use Rattle.fc_tree_node.specs.Place.{before_pair};
 ghost use Rattle.fc_tree_node.specs.Tree.{entries, IsSoundMap, IsSoundWithin};
 ghost use Rattle.fc_tree_node.specs.Bordered.{IsLeftBordered, IsRightBordered};
-ghost use Rattle.fc_tree_split.specs.Cut.{IsEmpty, IsCutPath, IsCutPathIn, IsCutInTwo};
+ghost use Rattle.fc_tree_split.specs.Cut.{IsEmpty, IsCutPath, IsCutPathIn, IsCutInTwo, border_requests};
 
 use crate::counting::count_in;
 use crate::rebalancing::{rebalance_left, rebalance_right};
-use fc_base::{Count, Handle, TryReserveError};
+use fc_base::{Asked, Count, Handle, TryReserveError};
 use fc_tree_node::lend::child_in;
 use fc_tree_node::node::Node;
 
@@ -23,6 +24,7 @@ pub fn try_split_counted<K: Drop, V: Drop, A: Handle>(
     root: &mut Option<Node<K, V, A>>,
     len: usize,
     path: &[u8],
+    asked: &mut Asked,
 ) -> Result<(Option<Node<K, V, A>>, usize), TryReserveError>
     requires sound { IsSoundMap root.old }
     requires path { IsCutPathIn path.now root.old }
@@ -36,10 +38,12 @@ pub fn try_split_counted<K: Drop, V: Drop, A: Handle>(
     ensures sound { IfOk result (λ right. IsSoundMap root.new × IsSoundMap right.0) }
     ensures error { IfErr result (λ e. e ≡ TryReserveError.AllocError) }
     ensures unchanged { IfErr result (λ _. root.new ≡ root.old) }
+    ensures requests { OnOk result (asked.new.requests ≡ asked.old.requests + border_requests root.old) }
+    ensures at_most { asked.new.requests ≤ asked.old.requests + border_requests root.old }
 {
     let Some(tree) = &*root else { unreachable!() };
     let is_left_smaller = is_left_smaller(tree, path);
-    let right = try_split(alloc, root, path)?;
+    let right = try_split(alloc, root, path, asked)?;
     let moved = if is_left_smaller {
         len - count_in(root)
     } else {
@@ -57,15 +61,18 @@ pub fn try_split<K: Drop, V: Drop, A: Handle>(
     alloc: A,
     root: &mut Option<Node<K, V, A>>,
     path: &[u8],
+    asked: &mut Asked,
 ) -> Result<Option<Node<K, V, A>>, TryReserveError>
     requires sound { IsSoundMap root.old }
     requires path { IsCutPathIn path.now root.old }
     ensures pairs { IfOk result (λ right. IsCutInTwo path.now root.old root.new right) }
     ensures sound { IfOk result (λ right. IsSoundMap root.new × IsSoundMap right) }
     ensures error { IfErr result (λ e. (e ≡ TryReserveError.AllocError) × (root.new ≡ root.old)) }
+    ensures requests { OnOk result (asked.new.requests ≡ asked.old.requests + border_requests root.old) }
+    ensures at_most { asked.new.requests ≤ asked.old.requests + border_requests root.old }
 {
     let Some(whole) = &*root else { unreachable!() };
-    let border = try_border(alloc, whole)?;
+    let border = try_border(alloc, whole, asked)?;
     let Some(whole) = root.take() else {
         unreachable!()
     };
@@ -82,16 +89,19 @@ pub fn try_split<K: Drop, V: Drop, A: Handle>(
 pub fn try_border<K: Drop, V: Drop, A: Handle>(
     alloc: A,
     node: &Node<K, V, A>,
+    asked: &mut Asked,
 ) -> Result<Node<K, V, A>, TryReserveError>
     requires { (h : ℕ) × IsLevelled h node.now }
     ensures ok { IfOk result (λ top. (h : ℕ) → IsLevelled h node.now → IsEmpty h top) }
     ensures error { IfErr result (λ e. e ≡ TryReserveError.AllocError) }
+    ensures requests { OnOk result (asked.new.requests ≡ asked.old.requests + (2 * height_of node.now + 1)) }
+    ensures at_most { asked.new.requests ≤ asked.old.requests + (2 * height_of node.now + 1) }
 {
     if node.is_leaf() {
-        return Node::try_leaf(alloc);
+        return Node::try_leaf(alloc, asked);
     }
-    let below = try_border(alloc, node.child(0))?;
-    let mut top = Node::try_inner(alloc)?;
+    let below = try_border(alloc, node.child(0), asked)?;
+    let mut top = Node::try_inner(alloc, asked)?;
     top.adopt(below);
     Ok(top)
 }

@@ -3,7 +3,7 @@ ghost use Rattle.std.specs.Bool.{OnTrue};
 ghost use Rattle.fc_tree_node.specs.Node.{IsEmptyLeaf};
 ghost use Rattle.fc_tree_node.specs.Siblings.{AreAlike};
 
-use fc_base::{Count, TryReserveError};
+use fc_base::{Asked, Count, TryReserveError};
 use fc_tree_node::node::{CAPACITY, MIN_LEN, Node};
 use std::alloc::Global;
 use std::process::Abort;
@@ -32,7 +32,7 @@ fn push_child<V: Drop>(
 
 // A leaf of these keys, each with ten times itself as its value.
 fn leaf(rt: &impl Abort, alloc: Global, keys: &[u64]) -> Result<Node<u64, u64>, Fail> {
-    let mut node = Node::try_leaf(alloc)?;
+    let mut node = Node::try_leaf(alloc, &mut Asked::new())?;
     for i in 0..keys.len() {
         push(rt, &mut node, keys[i], keys[i].wrapping_mul(10));
     }
@@ -47,7 +47,7 @@ fn family(
     below: &[&[u64]],
 ) -> Result<Node<u64, u64>, Fail> {
     assert!(rt; below.len() == keys.len() + 1);
-    let mut node = Node::try_inner(alloc)?;
+    let mut node = Node::try_inner(alloc, &mut Asked::new())?;
     node.adopt(leaf(rt, alloc, below[0])?);
     for i in 0..keys.len() {
         let child = leaf(rt, alloc, below[i + 1])?;
@@ -64,7 +64,7 @@ fn inner(
     below: &[u64],
 ) -> Result<Node<u64, u64>, Fail> {
     assert!(rt; below.len() == keys.len() + 1);
-    let mut node = Node::try_inner(alloc)?;
+    let mut node = Node::try_inner(alloc, &mut Asked::new())?;
     node.adopt(leaf(rt, alloc, &below[..1])?);
     for i in 0..keys.len() {
         let child = leaf(rt, alloc, &below[i + 1..i + 2])?;
@@ -221,7 +221,7 @@ fn are_children_of_halves(left: &Node<u64, u64>, right: &Node<u64, u64>, place: 
 // Whether the split of a full leaf leaves its halves.
 fn is_leaf_split(rt: &impl Abort, alloc: Global, place: usize) -> Result<bool, Fail> {
     let mut node = leaf(rt, alloc, &FULL)?;
-    let right = Node::try_leaf(alloc)?;
+    let right = Node::try_leaf(alloc, &mut Asked::new())?;
     let key = (place as u64).wrapping_mul(10).wrapping_add(5);
     let (up, right) = split_leaf(rt, &mut node, place, (key, key.wrapping_mul(10)), right);
     Ok(node.is_leaf() && right.is_leaf() && are_halves(&node, &up, &right, place))
@@ -243,7 +243,7 @@ fn leaves_inner_halves(
     place: usize,
 ) -> Result<bool, Fail> {
     assert!(rt; place < PLACES && node.child_count() == PLACES && node.len() == CAPACITY);
-    let right = Node::try_inner(alloc)?;
+    let right = Node::try_inner(alloc, &mut Asked::new())?;
     let key = (place as u64).wrapping_mul(10).wrapping_add(5);
     let child = leaf(rt, alloc, &[key.wrapping_add(1)])?;
     let pair = (key, key.wrapping_mul(10));
@@ -440,7 +440,7 @@ fn steals_several_from_either_side(rt: HostRuntime) -> Result<(), Fail> {
 
 // A node of one key, 30, over two inner nodes of two keys each.
 fn three_levels(rt: &impl Abort, alloc: Global) -> Result<Node<u64, u64>, Fail> {
-    let mut node = Node::try_inner(alloc)?;
+    let mut node = Node::try_inner(alloc, &mut Asked::new())?;
     node.adopt(inner(rt, alloc, &[10, 20], &[1, 11, 21])?);
     let right = inner(rt, alloc, &[40, 50], &[31, 41, 51])?;
     push_child(rt, &mut node, 30, 300, right);
@@ -585,7 +585,7 @@ fn tokens<'a>(
     n: u64,
     tally: &'a Tally,
 ) -> Result<Node<u64, Token<'a>>, TryReserveError> {
-    let mut node = Node::try_leaf(alloc)?;
+    let mut node = Node::try_leaf(alloc, &mut Asked::new())?;
     for i in 0..n {
         push(rt, &mut node, first.wrapping_add(i), Token::new(i, tally));
     }
@@ -596,7 +596,7 @@ fn tokens<'a>(
 fn a_split_drops_no_pair(rt: HostRuntime) -> Result<(), Fail> {
     let tally = Tally::new();
     let mut node = tokens(&rt, rt.alloc(), 0, CAPACITY as u64, &tally)?;
-    let right = Node::try_leaf(rt.alloc())?;
+    let right = Node::try_leaf(rt.alloc(), &mut Asked::new())?;
     let pair = (CAPACITY as u64, Token::new(7, &tally));
     let (up, right) = split_leaf(&rt, &mut node, CAPACITY, pair, right);
     let of_none = tally.dropped.get();
@@ -617,7 +617,7 @@ fn fourteen_pairs<'a>(
     alloc: Global,
     tally: &'a Tally,
 ) -> Result<Node<u64, Token<'a>>, TryReserveError> {
-    let mut node = Node::try_inner(alloc)?;
+    let mut node = Node::try_inner(alloc, &mut Asked::new())?;
     node.adopt(tokens(rt, alloc, 0, 6, tally)?);
     let right = tokens(rt, alloc, 7, 7, tally)?;
     push_child(rt, &mut node, 6, Token::new(7, tally), right);
@@ -661,7 +661,7 @@ fn one_of_each(
 ) -> Result<(), TryReserveError> {
     let below = tokens(rt, alloc, 0, 1, tally)?;
     *made = 1;
-    let mut node = Node::try_inner(alloc)?;
+    let mut node = Node::try_inner(alloc, &mut Asked::new())?;
     node.adopt(below);
     assert!(rt; has_one_child_alone(&node));
     let right = tokens(rt, alloc, 2, 1, tally)?;

@@ -1,7 +1,7 @@
 // Each item is dropped once, by a type that counts its drops. Room is taken by one request, and for items of no size by none.
 ghost use Rattle.std.specs.Prelude.{◌≡◌, length};
 
-use fc_base::Count;
+use fc_base::{Asked, Count};
 use fc_tree_node::node::{CAPACITY, Node};
 use fc_tree_slots::rest::Rest;
 use fc_tree_slots::slots::Slots;
@@ -25,7 +25,7 @@ fn list<'a>(
     n: u64,
     tally: &'a Tally,
 ) -> Result<Slots<Token<'a>, 4>, Fail> {
-    let mut slots = Slots::try_new(alloc)?;
+    let mut slots = Slots::try_new(alloc, &mut Asked::new())?;
     for i in 0..n {
         let number = first.wrapping_add(i);
         push(rt, &mut slots, Token::new(number, tally));
@@ -207,7 +207,7 @@ fn what_is_left_between_the_ends_is_dropped_once(rt: HostRuntime) -> Result<(), 
 
 #[test]
 fn what_is_written_to_a_lent_item_stays(rt: HostRuntime) -> Result<(), Fail> {
-    let mut slots: Slots<u64, 4> = Slots::try_new(rt.alloc())?;
+    let mut slots: Slots<u64, 4> = Slots::try_new(rt.alloc(), &mut Asked::new())?;
     slots.insert(0, 5, &mut Count::new());
     *slots.get_mut(0) = 3;
     assert!(&rt; *slots.get(0) == 3);
@@ -217,7 +217,7 @@ fn what_is_written_to_a_lent_item_stays(rt: HostRuntime) -> Result<(), Fail> {
 // Its one request is refused by the sweep, which also sees that there is no other.
 #[test]
 fn room_is_taken_in_one_request(rt: HostRuntime) -> Result<(), Fail> {
-    let mut slots = match Slots::try_new(rt.alloc()) {
+    let mut slots = match Slots::try_new(rt.alloc(), &mut Asked::new()) {
         Ok(slots) => slots,
         Err(AllocError) => return Ok(()),
     };
@@ -230,13 +230,16 @@ fn room_is_taken_in_one_request(rt: HostRuntime) -> Result<(), Fail> {
 
 #[test]
 fn room_for_too_many_bytes_is_refused(rt: HostRuntime) -> Result<(), Fail> {
-    let refused: Result<Slots<u64, 0x1000_0000_0000_0000>, AllocError> = Slots::try_new(rt.alloc());
+    let refused: Result<Slots<u64, 0x1000_0000_0000_0000>, AllocError> = Slots::try_new(
+        rt.alloc(),
+        &mut Asked::new(),
+    );
     assert!(&rt; refused.is_err());
     Ok(())
 }
 
 fn of_no_size(rt: &impl Abort, alloc: Global, count: u64) -> Result<Slots<(), 4>, Fail> {
-    let mut slots = Slots::try_new(alloc)?;
+    let mut slots = Slots::try_new(alloc, &mut Asked::new())?;
     for _ in 0..count {
         push(rt, &mut slots, ());
     }
@@ -290,7 +293,7 @@ fn lend(rt: &impl Abort, slots: &mut Slots<u64, 4>) {
 
 #[test]
 fn the_items_are_lent_as_a_slice(rt: HostRuntime) -> Result<(), Fail> {
-    let mut slots = Slots::try_new(rt.alloc())?;
+    let mut slots = Slots::try_new(rt.alloc(), &mut Asked::new())?;
     lend(&rt, &mut slots);
     Ok(())
 }

@@ -2,6 +2,7 @@
 ghost use Rattle.std.specs.Prelude.{◌≤◌};
 
 use crate::trees::{INNER, LEAF, is_levelled, is_pair_of, is_place, least_inner, three_levels};
+use fc_base::Asked;
 use fc_tree_node::node::Node;
 use fc_tree_split::cutting::try_split;
 use std::alloc::Global;
@@ -57,7 +58,7 @@ fn cut_at(
     assert!(rt; root.len() > 0 && is_levelled(&root, height));
     assert!(rt; is_place(&root, path));
     let mut left = Some(root);
-    let right = try_split(alloc, &mut left, path)?;
+    let right = try_split(alloc, &mut left, path, &mut Asked::new())?;
     assert!(rt; is_part(&left, height, 0, key));
     assert!(rt; is_part(&right, height, key, end));
     Ok(())

@@ -5,7 +5,7 @@ ghost use Rattle.fc_tree_node.specs.Node.{IsLevelled};
 ghost use Rattle.fc_tree_node.specs.Path.{IsPath};
 
 use crate::trees::{child_shows, is_levelled, shows, shows_two_levels};
-use fc_base::{Count, TryReserveError};
+use fc_base::{Asked, Count, TryReserveError};
 use fc_tree_insertion::insertion::{first_leaf, insert};
 use fc_tree_insertion::leaf::has_room;
 use fc_tree_insertion::new_nodes::try_new_nodes;
@@ -31,7 +31,7 @@ fn is_path(node: &Node<u64, u64>, path: &[u8]) -> bool
 
 // A leaf of one key.
 fn leaf_of(alloc: Global, key: u64) -> Result<Node<u64, u64>, TryReserveError> {
-    Ok(first_leaf(alloc, (key, key), &mut Count::new())?)
+    Ok(first_leaf(alloc, (key, key), &mut Count::new(), &mut Asked::new())?)
 }
 
 // Inserts the key at the path, with a room of as many nodes, and looks for it where the insertion says.
@@ -47,7 +47,7 @@ fn put(
     assert!(rt; is_levelled(root, path.len() - 1));
     assert!(rt; is_path(root, path));
     assert!(rt; has_room(root, path) == (nodes == 0));
-    let room = try_new_nodes(alloc, root, path)?;
+    let room = try_new_nodes(alloc, root, path, &mut Asked::new())?;
     assert!(rt; room.len() == nodes);
     let mut place = Path::of(path);
     insert(root, &mut place, (key, key), room, &mut Count::new());

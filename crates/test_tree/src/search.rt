@@ -7,7 +7,7 @@ ghost use Rattle.fc_tree_node.specs.Node.{IsTree};
 ghost use Rattle.fc_tree_node.specs.Place.{IsPlace};
 ghost use Rattle.fc_tree_search.specs.Written.{written};
 
-use fc_base::{Count, TryReserveError};
+use fc_base::{Asked, Count, TryReserveError};
 use fc_tree_node::node::{CAPACITY, Node};
 use fc_tree_node::path::Path;
 use fc_tree_search::lend::{pair_at, value_mut};
@@ -28,7 +28,7 @@ fn full_leaf<'a>(
 ) -> Result<Node<CountingKey<'a>, u64>, TryReserveError>
     ensures { IfOk result (λ b. IsTree b × IsAscending (on (λ k. k.number) nat_cmp) (pairs_of b)) }
 {
-    let mut leaf = Node::try_leaf(alloc)?;
+    let mut leaf = Node::try_leaf(alloc, &mut Asked::new())?;
     let mut count = Count::new();
     for half in 1..LAST / 2 + 1 {
         let key = CountingKey {

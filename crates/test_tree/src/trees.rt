@@ -3,7 +3,7 @@ ghost use Rattle.std.specs.Bool.{OnTrue};
 ghost use Rattle.fc_tree_node.specs.Node.{IsLevelled};
 ghost use Rattle.fc_tree_node.specs.Place.{IsPlace};
 
-use fc_base::Count;
+use fc_base::{Asked, Count};
 use fc_tree_node::node::{CAPACITY, MIN_LEN, Node};
 use std::alloc::Global;
 use std::process::Abort;
@@ -103,7 +103,7 @@ pub(crate) fn leaf(
     start: u64,
     end: u64,
 ) -> Result<Node<u64, u64>, Fail> {
-    let mut node = Node::try_leaf(alloc)?;
+    let mut node = Node::try_leaf(alloc, &mut Asked::new())?;
     for key in start..end {
         push(rt, &mut node, key);
     }
@@ -112,7 +112,7 @@ pub(crate) fn leaf(
 
 // An inner node of this subtree alone: others come after it, so that nobody holds two at a time.
 pub(crate) fn over(alloc: Global, first: Node<u64, u64>) -> Result<Node<u64, u64>, Fail> {
-    let mut node = Node::try_inner(alloc)?;
+    let mut node = Node::try_inner(alloc, &mut Asked::new())?;
     node.adopt(first);
     Ok(node)
 }
@@ -132,7 +132,7 @@ pub(crate) fn least_inner(
     alloc: Global,
     start: u64,
 ) -> Result<Node<u64, u64>, Fail> {
-    let mut node = Node::try_inner(alloc)?;
+    let mut node = Node::try_inner(alloc, &mut Asked::new())?;
     let mut key = start.wrapping_add(MIN_LEN as u64);
     node.adopt(leaf(rt, alloc, start, key)?);
     for _ in 0..MIN_LEN {

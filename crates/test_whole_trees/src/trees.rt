@@ -5,7 +5,7 @@ ghost use Rattle.std.specs.Bool.{OnTrue};
 ghost use Rattle.fc_tree_node.specs.Place.{IsPlace};
 ghost use Rattle.fc_tree_node.specs.Tree.{IsSoundMap};
 
-use fc_base::TryReserveError;
+use fc_base::{Asked, TryReserveError};
 use fc_tree_build::builder::Builder;
 use fc_tree_build::growing::GrowingBuilder;
 use fc_tree_node::node::{CAPACITY, MIN_LEN, Node};
@@ -205,7 +205,7 @@ fn splits(alloc: Global, n: u32, key: u64) -> Result<bool, TryReserveError> {
         return Ok(false);
     }
     let mut left = Some(root);
-    let right = try_split(alloc, &mut left, path.as_slice())?;
+    let right = try_split(alloc, &mut left, path.as_slice(), &mut Asked::new())?;
     Ok(is_sound(&left, 0, key) && is_sound(&right, key, u64::from(n)))
 }
 

@@ -9,7 +9,7 @@ ghost use Rattle.fc_map.specs.Full.{TakesNode};
 ghost use Rattle.fc_map.specs.Ready.{IsPrepared};
 
 use super::BTreeMap;
-use fc_base::{Count, Handle, TryReserveError};
+use fc_base::{Asked, Count, Handle, TryReserveError};
 use fc_tree_insertion::new_nodes::NewNodes;
 use fc_tree_node::path::Path;
 
@@ -80,7 +80,7 @@ impl<K: Ord + Drop, V: Drop, A: Handle> BTreeMap<K, V, A> {
     {
         match self.locate(key, path, count) {
             Ok(()) => Ok(None),
-            Err(_gap) => match self.try_nodes_at(path) {
+            Err(_gap) => match self.try_nodes_at(path, &mut Asked::new()) {
                 Ok(made) => Ok(Some(made)),
                 Err(refused) => Err(refused),
             },

@@ -17,7 +17,7 @@ ghost use Rattle.fc_map.specs.Fewest.{HasFewestMoves};
 ghost use Rattle.fc_tree_retain.specs.Retained.{AskedAtKey, ExtractsBy, GivenKey, RetainsInTurn};
 
 use super::BTreeMap;
-use fc_base::{Count, Handle, Query, TryReserveError};
+use fc_base::{Asked, Count, Handle, Query, TryReserveError};
 use fc_tree_build::growing::GrowingBuilder;
 use fc_tree_cursor::key_range::KeyRange;
 use fc_tree_node::path::Path;
@@ -81,7 +81,14 @@ pub fn replace<K: Ord + Drop, V: Drop, A: Handle>(
     let mut path = Path::new();
     match map.locate(&key, &mut path, count) {
         Ok(()) => Ok(Some(map.exchange_at(&path, (key, value), count))),
-        Err(gap) => match map.insert_at(&mut path, gap.has_room, key, value, count) {
+        Err(gap) => match map.insert_at(
+            &mut path,
+            gap.has_room,
+            key,
+            value,
+            count,
+            &mut Asked::new(),
+        ) {
             Ok(()) => Ok(None),
             Err(back) => Err(back),
         },

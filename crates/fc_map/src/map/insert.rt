@@ -1,5 +1,5 @@
 //! Insertion of a pair.
-ghost use Rattle.std.specs.Prelude.{◌≡◌, ◌+◌, ◌<◌, ◌⊎◌, [], ◌∷◌, length, true, IsSome, IsErr, IfOk, IfErr, OnOk, OnErr, None, Some};
+ghost use Rattle.std.specs.Prelude.{◌≡◌, ◌+◌, ◌<◌, ◌≤◌, ◌⊎◌, [], ◌∷◌, length, true, IsSome, IsErr, IfOk, IfErr, OnOk, OnErr, None, Some};
 ghost use Rattle.fc_base.specs.Ascending.{IsAscending};
 ghost use Rattle.fc_base.specs.Growth.{MayGrowRefuse};
 ghost use Rattle.fc_base.specs.OneKey.{put};
@@ -7,12 +7,13 @@ ghost use Rattle.fc_base.specs.Parts.{at, value_at};
 ghost use Rattle.fc_map.specs.Counts.{IsBounded};
 ghost use Rattle.fc_map.specs.Entries.{entries, IsSoundMap, passed_in};
 ghost use Rattle.fc_map.specs.Full.{IsFullAt, TakesNode};
+ghost use Rattle.fc_map.specs.Requests.{requests_at, insertion_requests, HasFewRequests};
 ghost use Rattle.fc_map.specs.Place.{IsHeldAt, IsOpenAt, IsPutIn, TellsRoom};
 ghost use Rattle.fc_tree_node.specs.Depth.{HasFewMoves};
 ghost use Rattle.fc_tree_node.specs.TreePlace.{before_gap_in, after_gap_in};
 
 use super::BTreeMap;
-use fc_base::{Count, Handle, TryReserveError};
+use fc_base::{Asked, Count, Handle, TryReserveError};
 use fc_tree_insertion::insertion::first_leaf;
 use fc_tree_insertion::leaf::insert_in_leaf;
 use fc_tree_insertion::ready::try_insert;
@@ -68,11 +69,46 @@ impl<K: Ord + Drop, V: Drop, A: Handle> BTreeMap<K, V, A> {
         ensures moved { OnOk result (at K.cmp (entries self.old) key ≡ None → count.old.moves < count.new.moves) }
         ensures bounded { IsBounded (length (entries self.new)) count.old count.new }
     {
+        self.try_insert_asked(key, value, count, &mut Asked::new())
+    }
+
+    /// `try_insert_counted`, with its requests for memory added to `asked`: none where an equal key is there or the leaf has room, one for a first leaf, and
+    /// else one for a leaf and two for each inner node that the insertion takes; where it is refused, no more.
+    ///
+    /// # Errors
+    /// As `try_insert`.
+    pub fn try_insert_asked(
+        &mut self,
+        key: K,
+        value: V,
+        count: &mut Count,
+        asked: &mut Asked,
+    ) -> Result<Option<V>, (K, V, TryReserveError)>
+        ensures old { IfOk result (λ old. old ≡ value_at K.cmp (entries self.old) key) }
+        ensures put { IfOk result (λ _. entries self.new ≡ put K.cmp (entries self.old) key value) }
+        ensures unchanged { IfErr result (λ _. self.new ≡ self.old) }
+        ensures new_key { IfErr result (λ _. at K.cmp (entries self.old) key ≡ None) }
+        ensures back { IfErr result (λ e. (e.0 ≡ key) × (e.1 ≡ value)) }
+        ensures error { IfErr result (λ e. MayGrowRefuse (length (entries self.old)) e.2) }
+        ensures only_full { OnErr result (length (entries self.old) < usize.MAX → TakesNode K.cmp key self.old) }
+        ensures full { at K.cmp (entries self.old) key ≡ None → length (entries self.old) ≡ usize.MAX → IsErr result }
+        ensures ascending { IsAscending K.cmp (entries self.new) }
+        ensures sound { IsSoundMap self.new }
+        ensures comparisons { count.new.comparisons ≡ count.old.comparisons + passed_in K.cmp key self.old }
+        ensures no_move { IsErr result ⊎ IsSome (at K.cmp (entries self.old) key) → count.new.moves ≡ count.old.moves }
+        ensures moved { OnOk result (at K.cmp (entries self.old) key ≡ None → count.old.moves < count.new.moves) }
+        ensures bounded { IsBounded (length (entries self.new)) count.old count.new }
+        ensures requests { OnOk result (at K.cmp (entries self.old) key ≡ None → asked.new.requests ≡ asked.old.requests + insertion_requests K.cmp key self.old) }
+        ensures at_most { asked.new.requests ≤ asked.old.requests + insertion_requests K.cmp key self.old }
+        ensures none { IsSome (at K.cmp (entries self.old) key) → asked.new.requests ≡ asked.old.requests }
+        ensures room { ¬ TakesNode K.cmp key self.old → asked.new.requests ≤ asked.old.requests }
+        ensures few { HasFewRequests (length (entries self.old) + 1) asked.old asked.new }
+    {
         let mut path = Path::new();
         let Err(gap) = self.locate(&key, &mut path, count) else {
             return Ok(Some(self.replace_at(&path, &key, value)));
         };
-        self.insert_at(&mut path, gap.has_room, key, value, count)?;
+        self.insert_at(&mut path, gap.has_room, key, value, count, asked)?;
         Ok(None)
     }
 
@@ -115,7 +151,7 @@ impl<K: Ord + Drop, V: Drop, A: Handle> BTreeMap<K, V, A> {
         ensures error { IfErr result (λ e. MayGrowRefuse (length (entries self.old)) e) }
         ensures only_full { OnErr result (length (entries self.old) < usize.MAX → IsFullAt self.old path.old) }
     {
-        match self.insert_growing(path, key, value, count) {
+        match self.insert_growing(path, key, value, count, &mut Asked::new()) {
             Ok(()) => Ok(()),
             Err((_key, _value, error)) => Err(error),
         }
@@ -143,6 +179,7 @@ impl<K: Ord + Drop, V: Drop, A: Handle> BTreeMap<K, V, A> {
         key: K,
         value: V,
         count: &mut Count,
+        asked: &mut Asked,
     ) -> Result<(), (K, V, TryReserveError)>
         requires gap { IsOpenAt K.cmp key self.old path.old }
         requires room { TellsRoom has_room path.old self.old }
@@ -160,12 +197,16 @@ impl<K: Ord + Drop, V: Drop, A: Handle> BTreeMap<K, V, A> {
         ensures length { OnOk result (length (entries self.new) ≡ length (entries self.old) + 1) }
         ensures moves { OnOk result (HasFewMoves (length (entries self.new)) count.old count.new) }
         ensures moved { OnOk result (count.old.moves < count.new.moves) }
+        ensures requests { OnOk result (asked.new.requests ≡ asked.old.requests + requests_at self.old path.old) }
+        ensures at_most { asked.new.requests ≤ asked.old.requests + requests_at self.old path.old }
+        ensures room { ¬ IsFullAt self.old path.old → asked.new.requests ≤ asked.old.requests }
+        ensures few { HasFewRequests (length (entries self.old) + 1) asked.old asked.new }
     {
         if has_room && self.len < usize::MAX {
             self.insert_in_room(path, (key, value), count);
             return Ok(());
         }
-        self.insert_growing(path, key, value, count)
+        self.insert_growing(path, key, value, count, asked)
     }
 
     // Puts a pair with a new key into the gap that the path leads to, whose leaf has room. The path then leads to the pair.
@@ -199,6 +240,7 @@ impl<K: Ord + Drop, V: Drop, A: Handle> BTreeMap<K, V, A> {
         key: K,
         value: V,
         count: &mut Count,
+        asked: &mut Asked,
     ) -> Result<(), (K, V, TryReserveError)>
         requires gap { IsOpenAt K.cmp key self.old path.old }
         ensures put { OnOk result (entries self.new ≡ put K.cmp (entries self.old) key value) }
@@ -215,14 +257,18 @@ impl<K: Ord + Drop, V: Drop, A: Handle> BTreeMap<K, V, A> {
         ensures length { OnOk result (length (entries self.new) ≡ length (entries self.old) + 1) }
         ensures moves { OnOk result (HasFewMoves (length (entries self.new)) count.old count.new) }
         ensures moved { OnOk result (count.old.moves < count.new.moves) }
+        ensures requests { OnOk result (asked.new.requests ≡ asked.old.requests + requests_at self.old path.old) }
+        ensures at_most { asked.new.requests ≤ asked.old.requests + requests_at self.old path.old }
+        ensures room { ¬ IsFullAt self.old path.old → asked.new.requests ≤ asked.old.requests }
+        ensures few { HasFewRequests (length (entries self.old) + 1) asked.old asked.new }
     {
         if self.len == usize::MAX {
             return Err((key, value, TryReserveError::CapacityOverflow));
         }
         let Some(root) = &mut self.root else {
-            return self.insert_first(path, key, value, count);
+            return self.insert_first(path, key, value, count, asked);
         };
-        try_insert(self.alloc, root, path, (key, value), count)?;
+        try_insert(self.alloc, root, path, (key, value), count, asked)?;
         self.len += 1;
         Ok(())
     }
@@ -235,6 +281,7 @@ impl<K: Ord + Drop, V: Drop, A: Handle> BTreeMap<K, V, A> {
         key: K,
         value: V,
         count: &mut Count,
+        asked: &mut Asked,
     ) -> Result<(), (K, V, TryReserveError)>
         requires empty { self.old ≡ None }
         requires start { path.old ≡ [] }
@@ -249,8 +296,9 @@ impl<K: Ord + Drop, V: Drop, A: Handle> BTreeMap<K, V, A> {
         ensures no_move { OnErr result (count.new.moves ≡ count.old.moves) }
         ensures moves { OnOk result (HasFewMoves 1 count.old count.new) }
         ensures moved { OnOk result (count.old.moves < count.new.moves) }
+        ensures requests { asked.new.requests ≡ asked.old.requests + 1 }
     {
-        let root = first_leaf(self.alloc, (key, value), count)?;
+        let root = first_leaf(self.alloc, (key, value), count, asked)?;
         self.root = Some(root);
         self.len = 1;
         path.push(0);

@@ -1,5 +1,5 @@
 //! Reservations: nodes allocated for many insertions, which nothing then refuses.
-ghost use Rattle.std.specs.Prelude.{◌≡◌, ◌+◌, ◌<◌, length, IsOk, IsErr, IsSome, IfOk, IfErr, MatchOption, None};
+ghost use Rattle.std.specs.Prelude.{◌≡◌, ℕ, ◌+◌, ◌*◌, ◌<◌, ◌≤◌, length, IsOk, IsErr, IsSome, IfOk, IfErr, MatchOption, None};
 ghost use Rattle.fc_base.specs.Ascending.{IsAscending};
 ghost use Rattle.fc_base.specs.OneKey.{put};
 ghost use Rattle.fc_base.specs.Parts.{at, value_at};
@@ -8,9 +8,10 @@ ghost use Rattle.fc_map.specs.Entries.{entries, IsSoundMap, passed_in};
 ghost use Rattle.fc_map.specs.Place.{IsOpenAt};
 ghost use Rattle.fc_map.specs.Ready.{AreNodesFor};
 ghost use Rattle.fc_map.specs.Reservation.{reservation_error};
+ghost use Rattle.fc_map.specs.Requests.{list_requests, IsFewestOver};
 
 use super::BTreeMap;
-use fc_base::{Count, Handle, TryReserveError};
+use fc_base::{Asked, Count, Handle, TryReserveError};
 use fc_tree_insertion::new_nodes::NewNodes;
 pub use fc_tree_insertion::reservation::Reservation;
 use fc_tree_node::path::Path;
@@ -32,7 +33,28 @@ impl<K: Ord + Drop, V: Drop, A: Handle> BTreeMap<K, V, A> {
         ensures error { IfErr result (λ e. e ≡ reservation_error (length (entries self.now)) insertions) }
         ensures overflow { reservation_error (length (entries self.now)) insertions ≡ TryReserveError.CapacityOverflow → IsErr result }
     {
-        Reservation::try_new(self.alloc, self.len, insertions)
+        self.try_reserve_nodes_asked(insertions, &mut Asked::new())
+    }
+
+    /// `try_reserve_nodes`, with its requests for memory added to `asked`: none for no insertion, and else one for the list of the nodes and two for each, of
+    /// which there are as many for each insertion as the highest tree of these pairs has levels; where it is refused, no more.
+    ///
+    /// # Errors
+    /// As `try_reserve_nodes`.
+    pub fn try_reserve_nodes_asked(
+        &self,
+        insertions: usize,
+        asked: &mut Asked,
+    ) -> Result<Reservation<K, V, A>, TryReserveError>
+        ensures places { IfOk result (λ reservation. reservation.places ≡ insertions) }
+        ensures pairs { IfOk result (λ reservation. reservation.pairs ≡ length (entries self.now) + insertions) }
+        ensures none { insertions ≡ 0 → IsOk result }
+        ensures error { IfErr result (λ e. e ≡ reservation_error (length (entries self.now)) insertions) }
+        ensures overflow { reservation_error (length (entries self.now)) insertions ≡ TryReserveError.CapacityOverflow → IsErr result }
+        ensures requests { IfOk result (λ _. (levels : ℕ) → IsFewestOver levels (length (entries self.now) + insertions) → asked.new.requests ≡ asked.old.requests + list_requests 2 (insertions * levels)) }
+        ensures at_most { (levels : ℕ) → IsFewestOver levels (length (entries self.now) + insertions) → asked.new.requests ≤ asked.old.requests + list_requests 2 (insertions * levels) }
+    {
+        Reservation::try_new_asked(self.alloc, self.len, insertions, asked)
     }
 
     /// Puts the value at the key, as `try_insert`, by the reservation's nodes alone, and so without a refusal. The caller shows that the reservation has a

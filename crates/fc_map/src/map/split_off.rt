@@ -1,13 +1,14 @@
 //! A map cut in two.
-ghost use Rattle.std.specs.Prelude.{◌≡◌, ◌<◌, length, IfOk, IfErr};
+ghost use Rattle.std.specs.Prelude.{◌≡◌, ◌+◌, ◌<◌, ◌≤◌, length, IfOk, IfErr, OnOk};
 ghost use Rattle.fc_base.specs.Ascending.{IsAscending};
 ghost use Rattle.fc_base.specs.Halves.{not_below};
 ghost use Rattle.fc_base.specs.Parts.{below};
 ghost use Rattle.fc_tree_split.specs.Cut.{IsCutPathIn, IsCutInTwo};
+ghost use Rattle.fc_map.specs.Requests.{border_requests, HasFewRequests};
 ghost use Rattle.fc_map.specs.Entries.{entries, IsSoundMap};
 
 use super::BTreeMap;
-use fc_base::{Count, Handle, Query, TryReserveError};
+use fc_base::{Asked, Count, Handle, Query, TryReserveError};
 use fc_tree_node::path::Path;
 use fc_tree_split::cutting::try_split_counted;
 
@@ -27,29 +28,57 @@ impl<K: Ord + Drop, V: Drop, A: Handle> BTreeMap<K, V, A> {
         ensures ascended { IsAscending K.cmp (entries self.old) }
         ensures sound { IsSoundMap self.new × IfOk result (λ rest. IsSoundMap rest) }
     {
+        self.split_off_asked(key, &mut Asked::new())
+    }
+
+    /// `split_off`, with its requests for memory added to `asked`: none in an empty map, and else one for a leaf and two for a node at each level above; where it
+    /// is refused, no more.
+    ///
+    /// # Errors
+    /// As `split_off`.
+    pub fn split_off_asked<Q: Query<K>>(
+        &mut self,
+        key: Q,
+        asked: &mut Asked,
+    ) -> Result<Self, TryReserveError>
+        ensures below { IfOk result (λ _. entries self.new ≡ below Q.order (entries self.old) (Q.sought key)) }
+        ensures from { IfOk result (λ rest. entries rest ≡ not_below Q.order (entries self.old) (Q.sought key)) }
+        ensures unchanged { IfErr result (λ _. self.new ≡ self.old) }
+        ensures error { IfErr result (λ e. (e ≡ TryReserveError.AllocError) × (0 < length (entries self.old))) }
+        ensures ascending { IsAscending K.cmp (entries self.new) × IfOk result (λ rest. IsAscending K.cmp (entries rest)) }
+        ensures ascended { IsAscending K.cmp (entries self.old) }
+        ensures sound { IsSoundMap self.new × IfOk result (λ rest. IsSoundMap rest) }
+        ensures requests { OnOk result (asked.new.requests ≡ asked.old.requests + border_requests self.old) }
+        ensures at_most { asked.new.requests ≤ asked.old.requests + border_requests self.old }
+        ensures few { HasFewRequests (length (entries self.old) + 1) asked.old asked.new }
+    {
         if self.len == 0 {
             return Ok(BTreeMap::new(self.alloc));
         }
         let mut path = Path::new();
         // Whether the key is there or not, the path leads to where the map is cut.
         let _found = self.locate(key, &mut path, &mut Count::new());
-        self.split_at(&path)
+        self.split_at(&path, asked)
     }
 
     // Cuts the map where the path leads to: the pairs before that place stay, and the answer takes the others.
-    fn split_at(&mut self, path: &Path) -> Result<Self, TryReserveError>
+    fn split_at(&mut self, path: &Path, asked: &mut Asked) -> Result<Self, TryReserveError>
         requires path { IsCutPathIn path.now self.old }
         ensures cut { IfOk result (IsCutInTwo path.now self.old self.new) }
         ensures error { IfErr result (λ e. e ≡ TryReserveError.AllocError) }
         ensures unchanged { IfErr result (λ _. self.new ≡ self.old) }
         ensures ascending { IsAscending K.cmp (entries self.new) × IfOk result (λ rest. IsAscending K.cmp (entries rest)) }
         ensures sound { IsSoundMap self.new × IfOk result (λ rest. IsSoundMap rest) }
+        ensures requests { OnOk result (asked.new.requests ≡ asked.old.requests + border_requests self.old) }
+        ensures at_most { asked.new.requests ≤ asked.old.requests + border_requests self.old }
+        ensures few { HasFewRequests (length (entries self.old) + 1) asked.old asked.new }
     {
         let (rest, moved) = try_split_counted(
             self.alloc,
             &mut self.root,
             self.len,
             path.as_slice(),
+            asked,
         )?;
         self.len -= moved;
         Ok(BTreeMap {

@@ -2,7 +2,7 @@ use Rattle.std.proofs.Common.{◌<◌, rules, ap, sym, subst, arith}
 use Rattle.std.proofs.lemmas.Bool.{false≢true}
 use Rattle.fc_tree_node.specs.Node.{IsLevelled}
 use Rattle.fc_tree_node.specs.Measures.{height_of}
-use Rattle.fc_tree_split.proofs.Cuts.{empty_made, empty_above, first_child}
+use Rattle.fc_tree_split.proofs.Cuts.{empty_made, empty_above, first_child, child_lower, anyway, leaf_low}
 use Rattle.fc_tree_split.proofs.cutting.+try_border.Goals as goal
 
 pub returns-then-is_leaf-clause-ok : goal.returns-then-is_leaf-clause-ok
@@ -19,3 +19,20 @@ pub returns-clause-ok : goal.returns-clause-ok
 returns-clause-ok g t c h l =
     empty_above h c.args.node.now c.adopt.new.self c.in_ok-below.below c.child.result.now (λ l. false≢true (c.if-is_leaf.ensures.1 l))
     c.adopt.ensures.pairs c.adopt.ensures.children c.child.ensures c.in_ok-below.ensures.ok l
+
+pub returns-then-is_leaf-clause-requests : goal.returns-then-is_leaf-clause-requests
+returns-then-is_leaf-clause-requests g t c =
+    anyway c.try_leaf.result (rw (leaf_low c.args.node.now (c.if-is_leaf.ensures.0 (search rules))) c.try_leaf.ensures.requests)
+
+pub returns-in_err-top-clause-at_most : goal.returns-in_err-top-clause-at_most
+returns-in_err-top-clause-at_most g t c =
+    let higher = child_lower c.requires.0 c.args.node.now c.child.result.now (λ l. false≢true (c.if-is_leaf.ensures.1 l)) c.requires.1 c.child.ensures in
+    omega (arith, higher, c.in_ok-below.ensures.requests, c.try_inner.ensures.at_most)
+
+pub returns-clause-requests : goal.returns-clause-requests
+returns-clause-requests g t c =
+    let higher = child_lower c.requires.0 c.args.node.now c.child.result.now (λ l. false≢true (c.if-is_leaf.ensures.1 l)) c.requires.1 c.child.ensures in
+    omega (arith, higher, c.in_ok-below.ensures.requests, c.in_ok-top.ensures.requests)
+
+pub returns-clause-at_most : goal.returns-clause-at_most
+returns-clause-at_most g t c = let e = returns-clause-requests g t c in omega (arith, e)

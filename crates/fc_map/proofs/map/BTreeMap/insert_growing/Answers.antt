@@ -1,9 +1,11 @@
-use Rattle.std.proofs.Common.{◌≡◌, ◌∙◌, length, ap, arith}
+use Rattle.std.proofs.Common.{◌≡◌, ◌+◌, ◌≤◌, ◌∙◌, length, ap, arith}
 use Rattle.fc_base.specs.Ascending.{IsAscending}
 use Rattle.fc_tree_node.specs.Node.{pairs_of}
 use Rattle.fc_map.specs.Entries.{entries}
+use Rattle.fc_map.specs.Requests.{requests_at}
 use Rattle.fc_base.proofs.Laws.{ascending_put}
 use Rattle.fc_map.proofs.InsertFacts.{put_in}
+use Rattle.fc_map.proofs.RequestFacts.{few_requests, unfull_asks_none}
 use Rattle.fc_map.proofs.map.BTreeMap.insert_growing.Goals as goal
 
 pub try_insert-requires-clause-path : goal.try_insert-requires-clause-path
@@ -29,3 +31,27 @@ returns-clause-put g c =
 
 pub returns-clause-ascending : goal.returns-clause-ascending
 returns-clause-ascending g c = (invariant_of-self-2 g c).0
+
+pub returns-clause-few : goal.returns-clause-few
+returns-clause-few g c =
+    few_requests g.K.Ord.cmp c.args.key c.args.self.now c.args.path.now (rw (← c.self.view_is) c.self.invariant.1) c.requires.gap c.args.asked.now
+    c.try_insert.new.asked (rw (← c.self.view_is) (rw c.in-Some.is c.try_insert.ensures.at_most))
+
+pub returns-in_err-try_insert-clause-few : goal.returns-in_err-try_insert-clause-few
+returns-in_err-try_insert-clause-few g c =
+    few_requests g.K.Ord.cmp c.args.key c.args.self.now c.args.path.now (rw (← c.self.view_is) c.self.invariant.1) c.requires.gap c.args.asked.now
+    c.try_insert.new.asked (rw (← c.self.view_is) (rw c.in-Some.is c.try_insert.ensures.at_most))
+
+pub returns-clause-room : goal.returns-clause-room
+returns-clause-room g c = λ unfull.
+    let none = unfull_asks_none g.K.Ord.cmp c.args.key c.args.self.now c.args.path.now (rw (← c.self.view_is) c.self.invariant.1) c.requires.gap unfull in
+    let most : c.try_insert.new.asked.requests ≤ c.args.asked.now.requests + requests_at c.args.self.now c.args.path.now =
+    rw (← c.self.view_is) (rw c.in-Some.is c.try_insert.ensures.at_most) in
+    omega (arith, none, most)
+
+pub returns-in_err-try_insert-clause-room : goal.returns-in_err-try_insert-clause-room
+returns-in_err-try_insert-clause-room g c = λ unfull.
+    let none = unfull_asks_none g.K.Ord.cmp c.args.key c.args.self.now c.args.path.now (rw (← c.self.view_is) c.self.invariant.1) c.requires.gap unfull in
+    let most : c.try_insert.new.asked.requests ≤ c.args.asked.now.requests + requests_at c.args.self.now c.args.path.now =
+    rw (← c.self.view_is) (rw c.in-Some.is c.try_insert.ensures.at_most) in
+    omega (arith, none, most)

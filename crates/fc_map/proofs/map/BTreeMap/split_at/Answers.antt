@@ -1,6 +1,7 @@
 use Rattle.std.proofs.Common.{arith}
 use Rattle.fc_map.specs.Entries.{entries}
 use Rattle.fc_map.proofs.SplitFacts.{parts_ascending}
+use Rattle.fc_map.proofs.RequestFacts.{few_cut}
 use Rattle.fc_map.proofs.map.BTreeMap.split_at.Goals as goal
 
 pub invariant_of-result : goal.invariant_of-result
@@ -19,3 +20,11 @@ invariant_of-self-2 g c =
 
 pub returns-clause-ascending : goal.returns-clause-ascending
 returns-clause-ascending g c = ((invariant_of-self-2 g c).0, (invariant_of-result g c).0)
+
+pub returns-clause-few : goal.returns-clause-few
+returns-clause-few g c =
+    rw (← c.self.view_is) (few_cut c.self.inside.root c.self.invariant.1 c.args.asked.now c.try_split_counted.new.asked c.try_split_counted.ensures.at_most)
+
+pub returns-in_err-rest-clause-few : goal.returns-in_err-rest-clause-few
+returns-in_err-rest-clause-few g c =
+    rw (← c.self.view_is) (few_cut c.self.inside.root c.self.invariant.1 c.args.asked.now c.try_split_counted.new.asked c.try_split_counted.ensures.at_most)

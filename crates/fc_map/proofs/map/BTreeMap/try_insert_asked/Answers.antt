@@ -1,7 +1,7 @@
 use Rattle.std.proofs.Common.{length, arith}
 use Rattle.fc_map.specs.Entries.{entries}
 use Rattle.fc_map.proofs.CountFacts.{moved_after}
-use Rattle.fc_map.proofs.map.BTreeMap.try_insert_counted.Goals as goal
+use Rattle.fc_map.proofs.map.BTreeMap.try_insert_asked.Goals as goal
 
 pub returns-clause-bounded : goal.returns-clause-bounded
 returns-clause-bounded g c =

@@ -4,7 +4,7 @@ use Rattle.std.proofs.lemmas.Bool.{false≢true}
 use Rattle.fc_tree_node.specs.TreePlace.{before_gap_in, after_gap_in}
 use Rattle.fc_map.proofs.CountFacts.{only_moved}
 use Rattle.fc_map.proofs.EntryFacts.{put_place, put_written}
-use Rattle.fc_map.proofs.map.entry.VacantEntry.try_insert_counted.Goals as goal
+use Rattle.fc_map.proofs.map.entry.VacantEntry.try_insert_asked.Goals as goal
 
 pub returns-in-Ok : goal.returns-in-Ok
 returns-in-Ok g c =
@@ -28,6 +28,10 @@ returns-in-Ok g c =
         moved = c.in-Ok.ensures.moved;
         bounded = only_moved _ c.args.count.now c.insert_at.new.count (omega arith) c.in-Ok.ensures.comparisons
             (rw c.in-Ok.ensures.length at c.in-Ok.ensures.moves);
+        requests = c.in-Ok.ensures.requests;
+        at_most = c.insert_at.ensures.at_most;
+        room = c.insert_at.ensures.room;
+        few = c.insert_at.ensures.few;
       },
     )
 
@@ -48,5 +52,9 @@ returns-in-Err g c = (
       λ _. (c.in-Err.ensures.comparisons, c.in-Err.ensures.no_move),
       λ _. (0, omega arith, rw c.in-Err.ensures.comparisons (omega arith), rw c.in-Err.ensures.no_move (omega arith)),
     );
+    requests = tt;
+    at_most = c.insert_at.ensures.at_most;
+    room = c.insert_at.ensures.room;
+    few = c.insert_at.ensures.few;
   },
 )

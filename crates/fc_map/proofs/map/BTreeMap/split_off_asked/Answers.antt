@@ -1,7 +1,8 @@
 use Rattle.std.proofs.Common.{arith, ◌<◌, length, ap}
 use Rattle.fc_map.specs.Entries.{entries}
 use Rattle.fc_map.proofs.SplitFacts.{split_halves}
-use Rattle.fc_map.proofs.map.BTreeMap.split_off.Goals as goal
+use Rattle.fc_map.proofs.RequestFacts.{none_cut}
+use Rattle.fc_map.proofs.map.BTreeMap.split_off_asked.Goals as goal
 
 pub returns-clause-below : goal.returns-clause-below
 returns-clause-below g c =
@@ -20,3 +21,8 @@ returns-clause-from g c =
     let some : 0 < length (entries c.args.self.now) = omega arith in
     (split_halves g.Q.Query.order (g.Q.Query.sought c.args.key) c.args.self.now c.split_at.new.self c.locate-found.new.path c.locate-found.result
     c.split_at.result c.locate-found.ensures.sound some c.locate-found.ensures.found c.locate-found.ensures.gap c.split_at.ensures.cut).1
+
+pub returns-then-self-eq0-clause-requests : goal.returns-then-self-eq0-clause-requests
+returns-then-self-eq0-clause-requests g c =
+    let none = none_cut c.self.inside.root c.self.invariant.1 (omega arith) in
+    rw (← c.self.view_is) (omega (arith, none))

@@ -1,0 +1,37 @@
+-- The struct's cell stays, and the numbers change.
+use Rattle.fc_base.proofs.Steps.{[], ◌∷◌, refl, proved, ftrue, flft, named, w64, vunit, vint, ‵, ◌⊛◌, ◌$◌, ◌∵◌, !, qed, done, move, keep, split, join, fsplit}
+use Rattle.fc_base.proofs.Steps.{fsplit3, fjoin, feq_i, suffices, frame, group, enter, of_opd, unit_lit, returns, alloc_all, pass_all, free_all, look_at, sets}
+use Rattle.fc_base.proofs.Steps.{u64, yes, uint_vals, uint_Tells, MutRef, mut_vals, mut_Tells, plain, nothing, opens, closes, Stays, walk_of, says, stay_ref}
+use Rattle.fc_base.proofs.Steps.{stay_dropped, Goes-ref, Goes-dropped, ends_at}
+use Rattle.std.specs.Prelude.{◌+◌}
+use Rattle.fc_base.specs.contracts.asked.Asked.record as f
+use Rattle.fc_base.proofs.asked.Asked.record.Statement.{statement}
+use Rattle.fc_base.proofs.asked.Asked.record.Code as code
+use Rattle.fc_base.specs.contracts.asked.Asked.{the_row as R}
+
+abbrev stayed : Stays f.ended.signature.params f.ended.kept
+stayed = (stay_ref (0 ∷ []) tt (plain (λ _. R)), (stay_dropped _ yes, tt))
+
+pub record_spec : {M : Type 1} → statement M
+record_spec 𝓤 𝓛 𝓜 𝓡 wired =
+    let c = f.clauses 𝓛 𝓜.mem 𝓡.returns in let W = walk_of 𝓛 f.ended stayed c in
+    let goes = Goes-dropped 𝓛 1 (plain (λ _. u64)) yes (λ κs x w. refl) in
+    proved 𝓛 f.ended stayed c 𝓜 𝓡 (Goes-ref 𝓛 1 0 tt (plain (λ _. R)), (goes, tt))
+    f.Key.name code.function (code.unfolded 𝓤 𝓛.H 𝓜 𝓡 wired)
+    (λ κs. (mut_vals, (uint_vals w64, tt))) (λ κs. (mut_Tells (named 0) κs.0 R, (uint_Tells w64, tt)))
+    (λ κs qs bounds a _ are.
+    let b = a.0.ref_ptr.0 in let o = a.0.ref_ptr.1 in let h = a.0.now in let vs = mut_vals a.0 in
+    let n = a.1.0 in
+    let h' : R.Denot = record { marker = h.marker; requests = h.requests + n } in
+    let y : W.Ghost = ((κs, qs, bounds, a, (vs, (uint_vals w64 n, tt))), tt) in
+    qed 𝓛 (((‵ (flft κs.0 qs.0) ⊛ ‵ ftrue) ⊛ ‵ ((MutRef (named 0) κs.0 R).own_val a.0 vs) ⊛ ‵ (u64.own_val n (vint w64 n ∷ [])) ⊛ ‵ ftrue) ∷ ‵ ftrue ∷ []) ∵
+    split ! $ split ! $ move ! (2 ∷ []) $ split ! $ keep ! (0 ∷ 2 ∷ []) $
+    enter ! _ _ _ _ _ $ alloc_all ! (λ l. pass_all ! refl ((tt, tt), ((tt, record { fits = are.1.0.1 }), tt)) $
+    sets ! (of_opd ! (unit_lit !)) refl (tt, tt) $
+    fsplit3 ! $ move ! (1 ∷ 2 ∷ 3 ∷ []) $ opens ! tt R b o (λ us.
+    move ! (1 ∷ []) $ fsplit ! $ fjoin ! $ move ! (1 ∷ []) $ closes ! tt R h' us b o $
+    returns ! (look_at ! 0 refl) $ free_all ! refl $ move ! (3 ∷ []) $
+    suffices ! _ (ends_at 𝓛 f.ended stayed c y vunit tt (h', (tt, tt)) (tt, (tt, tt))) $ says ! refl $
+    group ! 3 $ nothing ! $ nothing ! $ join ! $ move ! (1 ∷ 0 ∷ []) $ join ! $ nothing ! $ move ! (2 ∷ 0 ∷ []) $ join ! $ frame ! $ frame
+    ! $
+    feq_i ! _ (vunit ∷ []) _ refl $ done !)))
