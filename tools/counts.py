@@ -4,8 +4,9 @@ body: that hands its count not on, or compares without one.
 
 Only the calls of `Slots`, and of the cells under it, add moves. A new `Count` is made by public calls that take none, on a caller's behalf, and by those
 of OWN. A function that takes a caller's count calls no such function, nor a public one round it, without handing that count on. Keys are compared by
-`compare` alone, which counts, but in those of UNCOUNTED. Requests are added by ASKERS alone, and whoever takes an `Asked` begins no other. Neither of these
-types, nor what adds to one, goes by another name. Each place where it is otherwise is told, and the status is 1. Tests and probes are not looked at, and no operator: where `<` stands between two keys is not seen."""
+`compare` alone, which counts, but in those of UNCOUNTED. In the tree's crates a request is added just where one is made (MAKES), elsewhere none, and whoever
+takes an `Asked` begins no other. Neither of these types, nor what adds to one, goes by another name. Each place where it is otherwise is told, and the status
+is 1. Tests and probes are not looked at, and no operator: where `<` stands between two keys is not seen."""
 import re
 import sys
 
@@ -14,8 +15,8 @@ from wrong_bodies.records import crates
 from wrong_bodies.stated import CLAUSE, TOKEN, clause_end
 
 MOVERS = {"fc_base/src/count.rt", "fc_tree_slots/src/cells.rt", "fc_tree_slots/src/cells/moves.rt", "fc_tree_slots/src/slots.rt"}
-# What asks for a node's memory, and adds the request.
-ASKERS = {"fc_base/src/asked.rt", "fc_tree_slots/src/slots.rt"}
+# What asks for a tree's memory: each such call has its request added beside it, and nothing else adds one.
+MAKES = r"\b(?:with_capacity|Cells : : try_new)\b"
 # What compares keys without a count: methods, by a dot or their trait.
 COMPARES = r"[.:] (?:order_of|cmp|partial_cmp)\b"
 UNCOUNTED = {
@@ -53,6 +54,8 @@ SEEN = {
     "begins": ["let mine = &mut Count::new();", "let mine = &mut <Count>::new();", "let begin = Count::new; let mine = begin();"],
     "compares": ["query.order_of(key)", "Query::order_of(&query, key)"],
     "asks": ["let mine = &mut Asked::new();", "let begin = Asked::new; let mine = begin();"],
+    "makes": ["let list = Vec::with_capacity(alloc, 2)?;", "let cells = Cells::try_new(alloc, 15)?;"],
+    "adds": ["add_request(asked);"],
 }
 # The tree's moves of children, which nobody reads, are counted for nobody.
 CHILDREN = {"fc_tree_slots/src/children.rt", "fc_tree_slots/src/children/push.rt"}
@@ -90,6 +93,7 @@ class Function:
         self.begins = len(re.findall(r"\bCount (?:> )?: : new\b", said)) if self.path != "fc_base/src/count.rt" else 0
         self.takes_asked = bool(re.search(r": & (?:' \w+ )?mut Asked\b", header))
         self.asks = len(re.findall(r"\bAsked (?:> )?: : new\b", said)) if self.path != "fc_base/src/asked.rt" else 0
+        self.makes, self.adds = len(re.findall(MAKES, said)), self.body.count("add_request")
         self.renames = bool(re.search(r"\b(?:Count|add_moves|Asked|add_request) as\b|\btype \w+[^;]* (?:Count|Asked) ;", said))
         self.compares = bool(re.search(COMPARES, said))
         self.uncounted = {name for name, given in self.calls() if not self.counts & {*given}}
@@ -172,8 +176,8 @@ def main():
     for it in functions:
         if "add_moves" in it.body and it.path not in MOVERS:
             wrong.append(f"{it.path}: moves are added outside fc_tree_slots, in {it.name}")
-        if "add_request" in it.body and it.path not in ASKERS:
-            wrong.append(f"{it.path}: a request is added where none is made, in {it.name}")
+        if it.adds != it.makes * it.path.startswith("fc_tree_"):
+            wrong.append(f"{it.path}: {it.name} makes {it.makes} requests, and adds {it.adds}")
         if it.takes_asked and it.asks:
             wrong.append(f"{it.path}: {it.name} takes requests to count, and begins a count of its own")
         if it.renames:

@@ -11,6 +11,9 @@ header = re.compile(r"(?:pub )?(?:impl|trait)\b")
 function = re.compile(r"(?:pub )?(?:const )?fn (\w+)")
 NUMBERS = ["bool", "char", "()", *(kind + size for kind in "ui" for size in ("8", "16", "32", "64", "128", "size"))]
 STD = {"Box", "Vec", "Option", *NUMBERS}
+# The counted forms of calls: how their names end, and what such a form does besides.
+COUNTED_FORMS = {"_counted": "with its comparisons and moves added to a `Count`", "_asked": "with its requests for memory added to an `Asked`"}
+COUNTED = tuple(COUNTED_FORMS)
 NOT_CALLED = {"fc_map/src/map/for_sets.rt"}  # what the set needs of the map, and no user
 
 

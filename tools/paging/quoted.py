@@ -5,7 +5,7 @@ import re
 import sys
 
 from paging.sources import calls_in, handed_on, is_inner, read, top
-from surface import Call, call_at, clause, function, whole_item
+from surface import COUNTED, Call, call_at, clause, function, whole_item
 
 QUOTATION = re.compile(r"(?sm)(<!-- (code|body|proved|caller|imports|contracts|counted|clauses|literal|lines|file): ([^\n]+?) -->\n```\w*\n).*?^```$")
 
@@ -133,8 +133,8 @@ def signatures(path, is_shown=lambda it: True):
 
 
 def is_counted(call):
-    """Whether a call is the counted form of another."""
-    return isinstance(call, Call) and call.name.endswith("_counted")
+    """Whether a call is the counted form of another, by comparisons and moves or by requests as well."""
+    return isinstance(call, Call) and call.name.endswith(COUNTED)
 
 
 def contracts_of(text):

@@ -5,7 +5,7 @@ import re
 
 from paging.quoted import calls_quoted
 from paging.sources import below, calls_in, handed_on, here, is_inner, read, top, uses, wrong
-from surface import Call, clause, plain
+from surface import COUNTED, COUNTED_FORMS, Call, clause, plain
 
 
 def parameters(line):
@@ -50,7 +50,7 @@ def row_of_call(call, main):
 
 def calls_of_page(text):
     """The table of calls: for each group of contracts, under its heading, what the comment above each function says, but for what upstream has in its place."""
-    rows, main, counted = ["| Call | What it does | Refused |", "|---|---|---|"], "", False
+    rows, main, forms = ["| Call | What it does | Refused |", "|---|---|---|"], "", set()
     heading = ""
     for line in text.splitlines():
         heading = line.lstrip("# ") if line.startswith("### ") else heading
@@ -58,10 +58,10 @@ def calls_of_page(text):
             continue
         group = [it for path in found[1].split() for it in calls_in(path) if isinstance(it, Call) and not is_inner(it)]
         main = main or plain(group[0].owner).rpartition(" for ")[2].strip("&' ") if group else main
-        counted = counted or any(it.name.endswith("_counted") for it in group)
-        told = [row_of_call(it, main) for it in group if it.said and not it.name.endswith("_counted")]
+        forms.update(form for it in group for form in COUNTED if it.name.endswith(form))
+        told = [row_of_call(it, main) for it in group if it.said and not it.name.endswith(COUNTED)]
         rows += [f"| **{heading}** | | |"] * bool(told and heading) + told
-    rows += ["| `.._counted` | the call of that name, with its comparisons and moves added to a `Count`: [COUNTED.md](COUNTED.md) | |"] * counted
+    rows += [f"| `..{it}` | the call of that name, {COUNTED_FORMS[it]}: [COUNTED.md](COUNTED.md) | |" for it in COUNTED if it in forms]
     return "\n".join(rows)
 
 

@@ -2,6 +2,8 @@
 import html
 import re
 
+from surface import COUNTED, COUNTED_FORMS
+
 from . import markdown, surface as surfaces, traits
 
 ERRORS = r"\b(TryReserveError|AllocError|ServeError|Reply)\b|\bio::Result\b"
@@ -186,8 +188,8 @@ class Calls:
         """The calls of a type or a trait, under the headings that the page of its crate groups files by."""
         calls = self.inherent(public)
         plain = {it.name for it, _, _ in calls}
-        is_counted = lambda it: it.name.endswith("_counted") and it.name.removesuffix("_counted") in plain
-        counted = {it[0].name.removesuffix("_counted"): it for it in calls if is_counted(it[0])}
+        is_counted = lambda it: it.name.endswith(COUNTED) and it.name.rpartition("_")[0] in plain
+        counted = {it[0].name: it for it in calls if is_counted(it[0])}
         groups = {}
         for it in calls:
             if not is_counted(it[0]):
@@ -200,9 +202,10 @@ class Calls:
                 made.append(f'<h3 id="{self.anchor("group-" + markdown.slug(title, {}))}">{markdown.Page().inline(title)}</h3>')
             for it, owner, module in group:
                 text = self.call(it, owner, module, level)
-                if it.name in counted:
-                    inner = self.call(*counted[it.name], level + 1)
-                    text += f'<details class="counted"><summary><code>{it.name}_counted</code>: the same, with its comparisons and moves counted</summary>{inner}</details>'
+                for form in COUNTED:
+                    if it.name + form in counted:
+                        inner, said = self.call(*counted[it.name + form], level + 1), markdown.Page().inline(COUNTED_FORMS[form])
+                        text += f'<details class="counted"><summary><code>{it.name}{form}</code>: the same, {said}</summary>{inner}</details>'
                 made.append(text)
         return "".join(made), ordered
 

@@ -3,6 +3,8 @@ A CALL is named as `BTreeMap::get`, or by a longer end of its path where several
 import dataclasses
 import re
 
+from surface import COUNTED
+
 BEGIN = re.compile(r"^( *)// example: (\w.*)$")
 FEWEST, MOST = 3, 8  # lines
 
@@ -66,4 +68,4 @@ class Examples:
 
     def find(self, path):
         """The examples of a call: of a counted form without any, those of the call of the plain name."""
-        return self.of.get(path) or self.of.get(path.removesuffix("_counted"), [])
+        return self.of.get(path) or self.of.get(path.rpartition("_")[0] if path.endswith(COUNTED) else path, [])

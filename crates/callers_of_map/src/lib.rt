@@ -15,5 +15,6 @@ pub mod queries;
 pub mod range;
 pub mod ready;
 pub mod refusals;
+pub mod requests;
 pub mod reservation;
 pub mod stretches;

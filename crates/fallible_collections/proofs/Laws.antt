@@ -16,7 +16,7 @@ pub use Rattle.fc_laws.proofs.NeighbourLaws.{below_cut, above_cut, not_below_cut
 pub use Rattle.fc_laws.proofs.NeighbourLaws.{last_put}
 pub use Rattle.fc_laws.proofs.NeighbourCallLaws.{first_at_or_after_there, first_at_or_after_side, first_after_there, first_after_side, last_at_or_before_there}
 pub use Rattle.fc_laws.proofs.NeighbourCallLaws.{last_at_or_before_side, last_before_there, last_before_side}
-pub use Rattle.fc_laws.proofs.PlaceLaws.{key_at, contains_at, at_contained, some_at, none_at, value_at_cut, value_before_put, value_before_cut}
+pub use Rattle.fc_laws.proofs.PlaceLaws.{key_at, contains_at, at_contained, some_at, none_at, some_put, value_at_cut, value_before_put, value_before_cut}
 pub use Rattle.fc_laws.proofs.PlaceLaws.{length_put_at_most, length_written}
 pub use Rattle.fc_laws.proofs.JoinedLaws.{at_joined, value_at_joined, at_joined_query, value_at_joined_query, joined_is}
 pub use Rattle.fc_laws.proofs.PairLaws.{text_order_fits, filter_cut, filter_put_out, filter_put_kept, all_cut, all_put, sum_cut, sum_put, sum_put_new}
@@ -26,6 +26,7 @@ pub use Rattle.fc_laws.proofs.OrderLaws.{tuple_less, tuple_equal, tuple_greater,
 pub use Rattle.fc_laws.proofs.OrderLaws.{number_total, number_less, number_equal, number_greater, number_at_most}
 pub use Rattle.fc_laws.proofs.OrderLaws.{number_at_least, number_tuple_less, number_tuple_equal}
 pub use Rattle.fc_laws.proofs.OrderLaws.{number_tuple_greater, number_tuple_at_most, number_tuple_at_least, number_tuple_total}
+pub use Rattle.fc_laws.proofs.RequestLaws.{requests_within}
 pub use Rattle.fc_laws.proofs.RetainedLaws.{retained_is, staying_are}
 pub use Rattle.fallible_collections.proofs.SetLaws.{item_at_joined, item_at_joined_query, ascending_joined_items, same_items, joined_items_is, item_at_union}
 pub use Rattle.fallible_collections.proofs.SetLaws.{item_at_difference, item_at_symmetric}

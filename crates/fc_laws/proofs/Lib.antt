@@ -6,5 +6,6 @@ pub mod NeighbourLaws
 pub mod OrderLaws
 pub mod PairLaws
 pub mod PlaceLaws
+pub mod RequestLaws
 pub mod RetainedLaws
 pub mod Counted

@@ -15,7 +15,8 @@ use Rattle.fc_base.specs.Ascending.{IsAscending}
 use Rattle.fc_base.specs.OneKey.{put, put_by, cut}
 use Rattle.fc_base.specs.Parts.{below, above, at, value_at}
 use Rattle.fc_base.specs.Query.{IsQueryOrder}
-use Rattle.fc_base.proofs.Laws.{at_query, at_cut, put_by_query, value_at_put_equal, value_at_put_other, value_at_cut_other, value_at_equal, length_put_there}
+use Rattle.fc_base.proofs.Laws.{at_query, at_equal, at_put, at_put_other, at_cut, put_by_query, length_put_there}
+use Rattle.fc_base.proofs.Laws.{value_at_put_equal, value_at_put_other, value_at_cut_other, value_at_equal}
 use Rattle.fc_base.proofs.AscendingFacts.{is_equal}
 use Rattle.fc_laws.proofs.ListFacts.{of_found, found_passes, each_there}
 
@@ -71,6 +72,12 @@ module _ {K V : Type 0} (cmp : K → K → Ordering) where
   -- At the key of a pair of an ascending list stands that pair.
   pub at_contained : (s : List (K × V)) (k : K) (v : V) → IsTotalOrder cmp → IsAscending cmp s → Contains s (k, v) → at cmp s k ≡ Some (k, v)
   at_contained s k v total a there = All-contains (λ x. at cmp s x.0 ≡ Some x) s (k, v) (All-from_recursion _ s (each_there cmp s total a)) there
+
+  -- Where a pair stands at a key, one stands there once another was put.
+  pub some_put : (s : List (K × V)) (k : K) (v : V) (j : K) → IsTotalOrder cmp → IsSome (at cmp s j) → IsSome (at cmp (put cmp s k v) j)
+  some_put s k v j total there = decided cmp j k
+      (λ same. rw (at_equal cmp (put cmp s k v) k j total same ∙ at_put cmp s k v total) refl)
+      (λ other. rw (at_put_other cmp s k v j total other) there)
 
   -- A value that stands at a key once a pair was put is the one that was put, or stood there before.
   pub value_before_put : (s : List (K × V)) (k : K) (v : V) (j : K) (w : V) → IsTotalOrder cmp → value_at cmp (put cmp s k v) j ≡ Some w
