@@ -14,6 +14,18 @@ fn has(map: &Numbers, number: u64, wanted: u64) -> bool {
     }
 }
 
+#[test]
+fn the_requests_of_two_insertions_are_counted(rt: HostRuntime) -> Result<(), Fail> {
+    let mut map = BTreeMap::new(rt.alloc());
+    // example: BTreeMap::try_insert_asked, Asked::new
+    let (count, asked) = (&mut Count::new(), &mut Asked::new());
+    map.try_insert_asked(1u64, 'a', count, asked)?; // one, for the first leaf
+    map.try_insert_asked(1, 'b', count, asked)?; // none: the key is there
+    assert_eq!(rt; map.get(&1), Some(&'b'));
+    // end
+    Ok(())
+}
+
 // Puts the numbers up to 15 in, each with itself: the last one splits the first leaf.
 fn put_sixteen(map: &mut Numbers) -> Result<(), TryReserveError> {
     let (count, asked) = (&mut Count::new(), &mut Asked::new());
