@@ -109,7 +109,7 @@ fn jobs(pairs: u64) -> Vec<Job> {
         Job {
             keys: shuffled((0..half).collect()),
             others: shuffled((half..pairs).collect()),
-            ..made("append, one behind the other", APPEND)
+            ..made("append, one after the other", APPEND)
         },
         Job {
             keys: all.clone(),
