@@ -116,11 +116,19 @@ fn what_is_there_is_written_over(rt: HostRuntime) -> Result<(), Fail> {
     Ok(())
 }
 
+// Puts a number in with a value, where the map has fewer than a thousand, and answers whether it was new.
+fn is_put(map: &mut Numbers, number: u64, value: u64) -> Result<bool, TryReserveError> {
+    if map.len() >= 1000 {
+        return Ok(false);
+    }
+    let old = insert_below_thousand(map, number, value, &mut Asked::new())?;
+    Ok(old.is_none())
+}
+
 #[test]
 fn a_pair_is_put_into_a_map_of_few(rt: HostRuntime) -> Result<(), Fail> {
     let mut map = Numbers::new(rt.alloc());
-    assert!(rt; insert_below_thousand(&mut map, 7, 70, &mut Asked::new())?.is_none());
-    assert!(rt; insert_below_thousand(&mut map, 7, 71, &mut Asked::new())?.is_some());
-    assert!(rt; map.len() == 1 && has(&map, 7, 71));
+    assert!(rt; is_put(&mut map, 7, 70)?);
+    assert!(rt; !is_put(&mut map, 7, 71)? && map.len() == 1 && has(&map, 7, 71));
     Ok(())
 }
