@@ -50,3 +50,16 @@ pub fn insert_below_thousand(
     held_within(map);
     Ok(done?)
 }
+
+/// Copies a map of fewer than a thousand pairs. Whether it is refused or not, at most 161 requests are made: one for each of at most 143 nodes, and one more for
+/// each of at most 18 that have children.
+pub fn copy_below_thousand(
+    map: &BTreeMap<u64, u64>,
+    asked: &mut Asked,
+) -> Result<BTreeMap<u64, u64>, TryReserveError>
+    requires few { length (entries map.now) < 1000 }
+    ensures requests { asked.new.requests ≤ asked.old.requests + 161 }
+{
+    held_within(map);
+    map.try_clone_asked(asked)
+}

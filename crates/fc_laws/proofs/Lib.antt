@@ -9,3 +9,4 @@ pub mod PlaceLaws
 pub mod RequestLaws
 pub mod RetainedLaws
 pub mod Counted
+pub mod BlockLaws

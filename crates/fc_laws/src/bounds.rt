@@ -1,6 +1,7 @@
 //! The most nodes of a map of so many pairs, and the most bytes: however the map came to be, by insertions, removals, cuts, or two made one.
 ghost use Rattle.std.specs.Prelude.{◌≡◌, ℕ, ◌+◌, ◌*◌, ◌^◌, ◌<◌, ◌≤◌, length, SomeIff};
 ghost use Rattle.fc_map.specs.Entries.{entries};
+ghost use Rattle.fc_tree_copy.specs.Blocks.{blocks_in};
 ghost use Rattle.fc_laws.specs.Held as held;
 
 use fc_base::Handle;
@@ -34,6 +35,7 @@ pub fn most_bytes(pairs: usize, pair_room: usize, child_room: usize) -> Option<u
 pub fn held_within<K: Ord, V, A: Handle>(map: &BTreeMap<K, V, A>)
     ensures nodes { 7 * held.nodes_in map.now ≤ length (entries map.now) + 6 }
     ensures inner { 8 * held.inner_in map.now ≤ held.nodes_in map.now + 5 }
+    ensures blocks { blocks_in map.now ≡ held.nodes_in map.now + held.inner_in map.now }
     ensures bytes { (p c n : ℕ) → length (entries map.now) ≤ n → held.bytes_in p c map.now ≤ held.most_bytes p c n }
 {
     let _len = map.len();

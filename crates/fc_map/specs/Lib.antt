@@ -9,6 +9,7 @@ pub mod Fewest
 pub mod Unique
 pub mod Ready
 pub mod Requests
+pub mod WholeRequests
 pub mod KeptPlace
 pub mod Entry
 pub mod ReadyEntry

@@ -15,6 +15,7 @@ pub mod bulk_load;
 mod clones;
 mod compare;
 mod copy;
+mod copy_asked;
 mod debug;
 mod entry;
 mod extend;

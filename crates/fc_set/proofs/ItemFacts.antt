@@ -45,6 +45,10 @@ module _ {T V : Type 0} where
   all_keys P [] a = tt
   all_keys P (e ∷ s) a = (a.0, all_keys P s a.1)
 
+  all_of_keys : (P : T → Type 0) (s : List (T × V)) → AllByRecursion P (keys s) → AllByRecursion (λ e. P e.0) s
+  all_of_keys P [] a = tt
+  all_of_keys P (e ∷ s) a = (a.0, all_of_keys P s a.1)
+
   module _ {Q : Type 0} (cmp : T → Q → Ordering) (s : List (T × V)) (q : Q) where
     pub item_at_keys : item_at cmp (keys s) q ≡ option_map (λ e. e.0) (at cmp s q)
     item_at_keys = find_keys _ s
@@ -99,6 +103,17 @@ module _ {T V : Type 0} where
     pub ascending_keys : (s : List (T × V)) → IsAscending cmp s → AreAscending cmp (keys s)
     ascending_keys [] a = tt
     ascending_keys (e ∷ s) a = (all_keys (λ y. cmp e.0 y ≡ Less) s a.0, ascending_keys s a.1)
+
+    keys_ascend : (s : List (T × V)) → AreAscending cmp (keys s) → IsAscending cmp s
+    keys_ascend [] a = tt
+    keys_ascend (e ∷ s) a = (all_of_keys (λ y. cmp e.0 y ≡ Less) s a.0, keys_ascend s a.1)
+
+    -- one list after another
+    pub both_ascend : (s t : List (T × V)) → AreAscending cmp (keys s ++ keys t) → IsAscending cmp (s ++ t)
+    both_ascend s t a = keys_ascend (s ++ t) (subst (AreAscending cmp) (sym (map-append (λ e. e.0) s t)) a)
+
+    pub ascending_both : (s t : List (T × V)) → IsAscending cmp (s ++ t) → AreAscending cmp (keys s ++ keys t)
+    ascending_both s t a = subst (AreAscending cmp) (map-append (λ e. e.0) s t) (ascending_keys (s ++ t) a)
 
   -- Copies of pairs have copies of their keys.
   pub copied_keys : (R : T → T → Type 0) (S : V → V → Type 0) (s t : List (T × V)) → AllZip (λ p q. R p.0 q.0 × S p.1 q.1) s t → AllZip R (keys s) (keys t)

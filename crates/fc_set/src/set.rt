@@ -335,7 +335,41 @@ impl<T: Ord + Drop, A: Handle> BTreeSet<T, A> {
         ensures exchanged { IsSome (item_at T.cmp (items self.old) item) → count.new.moves ≡ count.old.moves + 2 }
         ensures bounded { IsBounded (length (items self.new)) count.old count.new }
     {
-        match for_sets::replace(&mut self.map, item, (), count) {
+        self.replace_asked(item, count, &mut Asked::new())
+    }
+
+    /// `replace_counted`, with its requests for memory added to `asked`, as `try_insert_asked` adds them: none where an equal item is there.
+    ///
+    /// # Errors
+    /// As `try_insert`, only at a new item.
+    pub fn replace_asked(
+        &mut self,
+        item: T,
+        count: &mut Count,
+        asked: &mut Asked,
+    ) -> Result<Option<T>, (T, TryReserveError)>
+        ensures old { IfOk result (λ old. old ≡ item_at T.cmp (items self.old) item) }
+        ensures put { IfOk result (λ _. items self.new ≡ with_replaced T.cmp (items self.old) item) }
+        ensures unchanged { IfErr result (λ _. self.new ≡ self.old) }
+        ensures new_item { IfErr result (λ _. item_at T.cmp (items self.old) item ≡ None) }
+        ensures back { IfErr result (λ e. e.0 ≡ item) }
+        ensures error { IfErr result (λ e. MayGrowRefuse (length (items self.old)) e.1) }
+        ensures only_full { OnErr result (length (items self.old) < usize.MAX → TakesNode T.cmp item self.old) }
+        ensures full { item_at T.cmp (items self.old) item ≡ None → length (items self.old) ≡ usize.MAX → IsErr result }
+        ensures ascending { AreAscending T.cmp (items self.new) }
+        ensures sound { IsSoundMap self.new }
+        ensures comparisons { count.new.comparisons ≡ count.old.comparisons + passed_in T.cmp item self.old }
+        ensures no_move { IsErr result → count.new.moves ≡ count.old.moves }
+        ensures moved { OnOk result (count.old.moves < count.new.moves) }
+        ensures exchanged { IsSome (item_at T.cmp (items self.old) item) → count.new.moves ≡ count.old.moves + 2 }
+        ensures bounded { IsBounded (length (items self.new)) count.old count.new }
+        ensures requests { OnOk result (item_at T.cmp (items self.old) item ≡ None → asked.new.requests ≡ asked.old.requests + insertion_requests T.cmp item self.old) }
+        ensures at_most { asked.new.requests ≤ asked.old.requests + insertion_requests T.cmp item self.old }
+        ensures none { IsSome (item_at T.cmp (items self.old) item) → asked.new.requests ≡ asked.old.requests }
+        ensures room { ¬ TakesNode T.cmp item self.old → asked.new.requests ≤ asked.old.requests }
+        ensures few { HasFewRequests (length (items self.old) + 1) asked.old asked.new }
+    {
+        match for_sets::replace(&mut self.map, item, (), count, asked) {
             Ok(old) => return Ok(item_of(old)),
             Err((item, _, e)) => return Err((item, e)),
         }

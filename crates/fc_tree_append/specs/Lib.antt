@@ -1,3 +1,4 @@
 pub mod Grafted
 pub mod Reused
 pub mod Rising
+pub mod Requests

@@ -1,13 +1,14 @@
 //! One map's pairs put into another's, all or none.
-ghost use Rattle.std.specs.Prelude.{◌≡◌, ◌+◌, ◌<◌, ◌≤◌, ◌⊎◌, [], ◌++◌, length, min, IfOk, IfErr, OnErr, IsErr, IsTrue};
+ghost use Rattle.std.specs.Prelude.{◌≡◌, ◌+◌, ◌<◌, ◌≤◌, ◌⊎◌, [], ◌++◌, length, min, max, IfOk, IfErr, OnErr, IsErr, IsTrue};
 ghost use Rattle.fc_base.specs.Ascending.{IsAscending};
 ghost use Rattle.fc_base.specs.Growth.{MayAppendRefuse};
 ghost use Rattle.fc_base.specs.Joined.{joined};
 ghost use Rattle.fc_tree_node.specs.Tree.{entries, IsSoundMap};
+ghost use Rattle.fc_tree_append.specs.Requests.{given_requests, join_requests};
 
 use crate::join::try_join;
 use crate::merge::merge;
-use fc_base::{Count, Handle, TryReserveError, compare};
+use fc_base::{Asked, Count, Handle, TryReserveError, compare};
 use fc_tree_build::builder::Builder;
 use fc_tree_node::node::Node;
 use fc_tree_search::first_last::{first_pair, last_pair};
@@ -16,7 +17,8 @@ use std::mem;
 /// Moves all pairs of `theirs` into `ours`, and answers how many there are then. Of two equal keys the pair of `theirs` stays, and
 /// ours is dropped. Where either holds none nothing is asked for and nothing compared. Where all keys of `theirs` lie after ours, that
 /// takes just one comparison, and a few nodes of each level from the shorter tree's root up. Else each key is compared at most once, and
-/// there are at least as many comparisons as the shorter tree has pairs, and the pairs are put into the leaves of both. No move is counted.
+/// there are at least as many comparisons as the shorter tree has pairs, and the pairs are put into the leaves of both. No move is counted. Requests
+/// for memory are added to `asked`.
 ///
 /// # Errors
 /// `CapacityOverflow` where both hold pairs and their lengths pass `usize::MAX` together, and `AllocError` if a node for them is
@@ -28,6 +30,7 @@ pub fn try_append<K: Ord + Drop, V: Drop, A: Handle>(
     theirs: &mut Option<Node<K, V, A>>,
     their_len: usize,
     count: &mut Count,
+    asked: &mut Asked,
 ) -> Result<usize, TryReserveError>
     requires sound { IsSoundMap ours.old × IsSoundMap theirs.old }
     requires order { IsAscending K.cmp (entries ours.old) × IsAscending K.cmp (entries theirs.old) }
@@ -46,6 +49,10 @@ pub fn try_append<K: Ord + Drop, V: Drop, A: Handle>(
     ensures merged { IfOk result (λ _. ¬ IsAscending K.cmp (entries ours.old ++ entries theirs.old) → count.old.comparisons + min our_len their_len ≤ count.new.comparisons) }
     ensures after { 0 < our_len → 0 < their_len → our_len + their_len ≤ usize.MAX → IsAscending K.cmp (entries ours.old ++ entries theirs.old) → count.new.comparisons ≡ count.old.comparisons + 1 }
     ensures moves { count.new.moves ≡ count.old.moves }
+    ensures no_request { (our_len ≡ 0) ⊎ (their_len ≡ 0) → asked.new.requests ≡ asked.old.requests }
+    ensures requests_after { IfOk result (λ _. 0 < our_len → 0 < their_len → IsAscending K.cmp (entries ours.old ++ entries theirs.old) → asked.new.requests ≡ asked.old.requests + join_requests ours.old theirs.old) }
+    ensures requests_merged { IfOk result (λ _. ¬ IsAscending K.cmp (entries ours.old ++ entries theirs.old) → asked.new.requests ≡ asked.old.requests + given_requests (our_len + their_len)) }
+    ensures at_most { asked.new.requests ≤ asked.old.requests + max (join_requests ours.old theirs.old) (given_requests (our_len + their_len)) }
 {
     if their_len == 0 {
         return Ok(our_len);
@@ -58,10 +65,10 @@ pub fn try_append<K: Ord + Drop, V: Drop, A: Handle>(
         return Err(TryReserveError::CapacityOverflow);
     };
     if is_after(ours, theirs, count) {
-        try_join(alloc, ours, theirs)?;
+        try_join(alloc, ours, theirs, asked)?;
         return Ok(len);
     }
-    let builder = Builder::try_for_given_leaves(alloc, len)?;
+    let builder = Builder::try_for_given_leaves(alloc, len, asked)?;
     let (root, len) = merge(ours.take(), theirs.take(), builder, count);
     *ours = root;
     Ok(len)

@@ -4,6 +4,7 @@ ghost use Rattle.fc_base.specs.Sizes.{most_levels, most_height};
 ghost use Rattle.fc_tree_node.specs.Node.{pairs_of, IsEmptyInner, IsLevelled, IsSoundRoot, IsTree};
 ghost use Rattle.fc_tree_node.specs.Measures.{height_of};
 ghost use Rattle.fc_tree_node.specs.Tree.{entries, IsSoundMap, IsSoundWithin};
+ghost use Rattle.fc_tree_append.specs.Requests.{join_requests};
 
 use crate::grafting::graft;
 use fc_base::{Asked, Count, Handle, TryReserveError};
@@ -24,6 +25,7 @@ pub(crate) fn try_join<K: Drop, V: Drop, A: Handle>(
     alloc: A,
     ours: &mut Option<Node<K, V, A>>,
     theirs: &mut Option<Node<K, V, A>>,
+    asked: &mut Asked,
 ) -> Result<(), TryReserveError>
     requires sound { IsSoundMap ours.old × IsSoundMap theirs.old }
     requires some { (0 < length (entries ours.old)) × (0 < length (entries theirs.old)) }
@@ -32,6 +34,8 @@ pub(crate) fn try_join<K: Drop, V: Drop, A: Handle>(
     ensures emptied { IfOk result (λ _. theirs.new ≡ None) }
     ensures sound { IfOk result (λ _. IsSoundMap ours.new) }
     ensures error { IfErr result (λ e. (e ≡ TryReserveError.AllocError) × (ours.new ≡ ours.old) × (theirs.new ≡ theirs.old)) }
+    ensures requests { IfOk result (λ _. asked.new.requests ≡ asked.old.requests + join_requests ours.old theirs.old) }
+    ensures at_most { asked.new.requests ≤ asked.old.requests + join_requests ours.old theirs.old }
 {
     let Some(left) = &*ours else { unreachable!() };
     let Some(right) = &*theirs else {
@@ -39,11 +43,7 @@ pub(crate) fn try_join<K: Drop, V: Drop, A: Handle>(
     };
     let our_height = height(left);
     let their_height = height(right);
-    let spares = try_spares(
-        alloc,
-        our_height.abs_diff(their_height) + 1,
-        &mut Asked::new(),
-    )?;
+    let spares = try_spares(alloc, our_height.abs_diff(their_height) + 1, asked)?;
     let Some(left) = ours.take() else {
         unreachable!()
     };

@@ -1,8 +1,9 @@
 -- How many nodes a tree takes that grows at its right end.
-use Rattle.std.specs.Prelude.{◌≡◌, ℕ, zero, suc, ◌+◌, ◌*◌, ◌/◌, ◌^◌, ◌<◌, ◌≤◌, List, [], ◌∷◌, length, nat_le, if◌then◌else◌}
+use Rattle.std.specs.Prelude.{◌≡◌, ℕ, zero, suc, ◌+◌, ◌*◌, ◌/◌, ◌^◌, ◌<◌, ◌≤◌, List, [], ◌∷◌, length, min, nat_le, if◌then◌else◌}
 use Rattle.fc_base.specs.Sizes.{capacity, most_children, most_height, most_levels}
 use Rattle.fc_tree_node.specs.declared.node.Node.{Node}
 use Rattle.fc_tree_node.specs.Node.{own_pairs}
+use Rattle.fc_tree_node.specs.Requests.{list_requests}
 
 -- How many leaves n pairs need at most: a full leaf, and the pair that stands after it, are as many pairs as a node has
 -- children.
@@ -20,6 +21,10 @@ inner_above (suc d) (suc n) = suc n / most_children + 1 + inner_above d (suc n /
 -- How many inner nodes a tree of n pairs has that is made of them in order, where each leaf but the last is full.
 abbrev pub inner_for : ℕ → ℕ
 inner_for n = inner_above most_levels (n / most_children)
+
+-- How many requests a builder for n pairs makes that is given its leaves: for two leaves at most and for all inner nodes, each with a list.
+abbrev pub given_requests : ℕ → ℕ
+given_requests n = list_requests 1 (min (leaves_for n) 2) + list_requests 2 (inner_for n)
 
 module _ {K V Z : Type 0} where
   -- How many pairs stand in the nodes themselves.

@@ -4,7 +4,7 @@ ghost use Rattle.fc_base.specs.Sizes.{most_children};
 ghost use Rattle.fc_tree_node.specs.Node.{IsEmptyLeaf};
 ghost use Rattle.fc_tree_node.specs.Tree.{entries, IsSoundMap};
 ghost use Rattle.fc_tree_node.specs.Requests.{list_requests};
-ghost use Rattle.fc_tree_build.specs.Spares.{leaves_for, inner_for};
+ghost use Rattle.fc_tree_build.specs.Spares.{leaves_for, inner_for, given_requests};
 
 use crate::spares::{inner_count, leaf_count, take_spare};
 use crate::spine::{Spine, attach, close, put_pair};
@@ -76,16 +76,22 @@ impl<K: Drop, V: Drop, A: Handle> Builder<K, V, A> {
     }
 
     /// A builder of no pair with room for `n` once leaves are given to it: each inner node that they can need is made now, and just two
-    /// leaves, or one where it can need no more.
+    /// leaves, or one where it can need no more. Its requests for memory are added to `asked`.
     ///
     /// # Errors
     /// `AllocError` if one of them or a list of them is refused, never where `n` is 0. Nothing is then left after.
-    pub fn try_for_given_leaves(alloc: A, n: usize) -> Result<Builder<K, V, A>, TryReserveError>
+    pub fn try_for_given_leaves(
+        alloc: A,
+        n: usize,
+        asked: &mut Asked,
+    ) -> Result<Builder<K, V, A>, TryReserveError>
         ensures ok { IfOk result (λ b. (b.pairs ≡ []) × (b.limit ≡ n) × (b.room ≡ min n (2 * most_children - 1))) }
         ensures error { IfErr result (λ e. e ≡ TryReserveError.AllocError) }
         ensures none { n ≡ 0 → IsOk result }
+        ensures requests { IfOk result (λ _. asked.new.requests ≡ asked.old.requests + given_requests n) }
+        ensures at_most { asked.new.requests ≤ asked.old.requests + given_requests n }
     {
-        Self::try_with_leaves(alloc, n, leaf_count(n).min(MADE_LEAVES), &mut Asked::new())
+        Self::try_with_leaves(alloc, n, leaf_count(n).min(MADE_LEAVES), asked)
     }
 
     // A builder of no pair, with so many leaves and the inner nodes that `n` pairs can need.

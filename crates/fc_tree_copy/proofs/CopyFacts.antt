@@ -1,17 +1,20 @@
 -- A copy of a tree, made of copies of its parts.
-use Rattle.std.proofs.Common.{◌≡◌, ℕ, zero, suc, ◌+◌, ◌<◌, ◌≤◌, List, [], ◌∷◌, ◌++◌, length, map, take, get_or, sym, ap, ◌∙◌, subst, inl, inr, arith, Some}
+use Rattle.std.proofs.Common.{◌≡◌, ◌⊎◌, ℕ, zero, suc, ◌+◌, ◌<◌, ◌≤◌, List, [], ◌∷◌, ◌++◌, length, map, take, get_or, Option, Some, None}
+use Rattle.std.proofs.Common.{refl, sym, ap, ◌∙◌, subst, inl, inr, arith}
 use Rattle.std.specs.List.{All, Any, AllZip, AllByRecursion}
 use Rattle.std.proofs.lemmas.List.{get_or_default, take_all, length-take-le, length-map}
 use Rattle.std.proofs.lemmas.List.Elements.{length_all_zip, all_zip_more, All-from_recursion, recursion_from_All}
 use Rattle.fc_base.specs.Sizes.{min_len}
 use Rattle.fc_tree_node.specs.Weave.{after_list, weave}
-use Rattle.fc_tree_node.specs.declared.node.Node.{Node, roll-Node}
+use Rattle.fc_tree_node.specs.declared.node.Node.{Node, out-Node, roll-Node}
 use Rattle.fc_tree_node.specs.Node.{own_pairs, children_of, child_at, pairs_of, IsLeaf, IsLevelled}
 use Rattle.fc_tree_node.proofs.Lists.{all_front, all_back, all_at}
 use Rattle.fc_tree_node.proofs.Made.{own_made, children_made, field_made}
 use Rattle.fc_tree_node.proofs.Pairs.{IsBelow, pairs_is, leaf_children}
 use Rattle.fc_base.specs.declared.try_reserve_error.TryReserveError.{TryReserveError}
+use Rattle.fc_tree_copy.specs.Blocks.{blocks_alone}
 use Rattle.fc_tree_copy.specs.Copy.{IsCopy, IsCopyUpTo, MayRefuseNodes}
+use Rattle.fc_tree_copy.proofs.BlockFacts.{all_blocks, blocks_are, alone_leaf, alone_inner}
 
 module _ {X : Type 0} (R : X → X → Type 0) where
   zip_append : (xs us ys vs : List X) → AllZip R xs ys → AllZip R us vs → AllZip R (xs ++ us) (ys ++ vs)
@@ -48,7 +51,14 @@ module _ {X : Type 0} (R : X → X → Type 0) where
   pub all_copied : (i : ℕ) (xs ys : List X) → i ≡ length xs → AllZip R (take i xs) ys → AllZip R xs ys
   all_copied i xs ys e a = subst (λ l. AllZip R l ys) (take_all i xs (omega arith)) a
 
+none_or_some : {X : Type 0} (o : Option X) → (o ≡ None) ⊎ ¬ (o ≡ None)
+none_or_some None = inl refl
+none_or_some (Some x) = inr (λ e. absurd cc)
+
 module _ {K V Z : Type 0} (same : K × V → K × V → Type 0) where
+  leaf_or_inner : (n : Node K V Z) → IsLeaf n ⊎ ¬ (IsLeaf n)
+  leaf_or_inner n = none_or_some (out-Node K V Z n).children
+
   lists : (cs ds : List (Node K V Z)) → AllZip (IsCopy same) cs ds → AllZip (AllZip same) (map pairs_of cs) (map pairs_of ds)
   lists [] [] a = tt
   lists [] (d ∷ ds) a = absurd a
@@ -64,6 +74,12 @@ module _ {K V Z : Type 0} (same : K × V → K × V → Type 0) where
       let many = length_all_zip same (own_pairs c) (own_pairs d) a.0.own in
       let least = l.0.0 in
       ((omega (arith, many, least), a.0.levels h l.0.1), lower h cs ds a.1 l.1)
+
+  as_many : (cs ds : List (Node K V Z)) → AllZip (IsCopy same) cs ds → all_blocks ds ≡ all_blocks cs
+  as_many [] [] a = refl
+  as_many [] (d ∷ ds) a = absurd a
+  as_many (c ∷ cs) [] a = absurd a
+  as_many (c ∷ cs) (d ∷ ds) a = let one = a.0.blocks in let rest = as_many cs ds a.1 in omega (arith, one, rest)
 
   -- An inner node with the own pairs of another one copied, and none of its children yet.
   pub inner_started : (n : Node K V Z) (ps : List (K × V)) (cs : List (Node K V Z)) → ¬ (IsLeaf n) → AllZip same (own_pairs n) ps → cs ≡ []
@@ -103,8 +119,15 @@ module _ {K V Z : Type 0} (same : K × V → K × V → Type 0) where
           (lists (children_of n) (children_of m) below) copied.own));
       own = copied.own;
       levels = levels;
+      blocks = omega (arith, blocks_are n, blocks_are m, alone, as_many (children_of n) (children_of m) below);
     }
       where
+        alone : blocks_alone m ≡ blocks_alone n
+        alone = elim (leaf_or_inner n) [
+          | inl l ↦ (let a = alone_leaf n l in let b = alone_leaf m (copied.leaf l) in omega (arith, a, b))
+          | inr l ↦ (let a = alone_inner n l in let b = alone_inner m (copied.inner l) in omega (arith, a, b))
+        ]
+
         below : AllZip (IsCopy same) (children_of n) (children_of m)
         below = all_copied (IsCopy same) i (children_of n) (children_of m) e copied.below
 

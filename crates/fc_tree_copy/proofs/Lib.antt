@@ -1,3 +1,4 @@
+pub mod BlockFacts
 pub mod CopyFacts
 pub mod TreeFacts
 pub mod CloneFacts

@@ -7,8 +7,7 @@ ghost use Rattle.fc_tree_copy.specs.Copy.{AreSame};
 ghost use Rattle.fc_map.specs.Entries.{entries, IsSoundMap};
 
 use super::BTreeMap;
-use fc_base::{Handle, TryClone, TryReserveError};
-use fc_tree_copy::tree::try_copy_tree;
+use fc_base::{Asked, Handle, TryClone, TryReserveError};
 
 /// A copy of a map has a copy of each pair, in order, made by the `try_clone` of key and value, in a tree of the same nodes; it takes its
 /// memory where the map does. Copies of keys have to be equal to them, so that they ascend as the keys do. Upstream:
@@ -30,11 +29,6 @@ impl<K: Ord + TryClone, V: TryClone, A: Handle> TryClone for BTreeMap<K, V, A> {
         ensures ascending { IfOk result (λ copy. IsAscending K.cmp (entries copy)) }
         ensures sound { IfOk result (λ copy. IsSoundMap copy) }
     {
-        let root = try_copy_tree(self.alloc, &self.root)?;
-        Ok(BTreeMap {
-            root,
-            len: self.len,
-            alloc: self.alloc,
-        })
+        self.try_clone_asked(&mut Asked::new())
     }
 }

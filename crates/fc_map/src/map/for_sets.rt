@@ -1,6 +1,6 @@
 //! What a set, which is a map of its items, rests on: a key with its pair taken out and replaced, a map made of pairs in order, and keys
 //! asked in turn.
-ghost use Rattle.std.specs.Prelude.{◌≡◌, ◌+◌, ◌<◌, List, length, IsSome, IsErr, IfOk, IfErr, OnOk, OnErr, Some, None};
+ghost use Rattle.std.specs.Prelude.{◌≡◌, ◌+◌, ◌<◌, ◌≤◌, List, length, IsSome, IsErr, IfOk, IfErr, OnOk, OnErr, Some, None};
 ghost use Rattle.fc_base.specs.Ascending.{IsAscending};
 ghost use Rattle.fc_base.specs.Growth.{MayGrowRefuse};
 ghost use Rattle.fc_base.specs.Joined.{placed};
@@ -12,6 +12,7 @@ ghost use Rattle.fc_map.specs.Entries.{entries, IsSoundMap, passed_in};
 ghost use Rattle.fc_map.specs.Full.{TakesNode};
 ghost use Rattle.fc_map.specs.Place.{IsHeldAt};
 ghost use Rattle.fc_map.specs.Ranged.{replacing};
+ghost use Rattle.fc_map.specs.Requests.{insertion_requests, HasFewRequests};
 ghost use Rattle.fc_tree_node.specs.Depth.{HasFewMoves};
 ghost use Rattle.fc_map.specs.Fewest.{HasFewestMoves};
 ghost use Rattle.fc_tree_retain.specs.Retained.{AskedAtKey, ExtractsBy, GivenKey, RetainsInTurn};
@@ -52,7 +53,7 @@ pub fn take<K: Ord + Drop, V: Drop, Q: Query<K>, A: Handle>(
 
 /// Puts the pair in the place of the one with an equal key, which is answered, and asks for no memory; else the pair is new, and the
 /// answer is `Ok(None)`. To the count it adds exactly the comparisons of the keys that a search from the left passes; the moves of an
-/// insertion for a new pair, and two in the place of another.
+/// insertion for a new pair, and two in the place of another. To `asked` it adds its requests for memory.
 ///
 /// # Errors
 /// As `BTreeMap::try_insert`, only at a new key.
@@ -61,6 +62,7 @@ pub fn replace<K: Ord + Drop, V: Drop, A: Handle>(
     key: K,
     value: V,
     count: &mut Count,
+    asked: &mut Asked,
 ) -> Result<Option<(K, V)>, (K, V, TryReserveError)>
     ensures old { IfOk result (λ old. old ≡ at K.cmp (entries map.old) key) }
     ensures put { IfOk result (λ _. entries map.new ≡ placed K.cmp (entries map.old) (key, value)) }
@@ -77,18 +79,16 @@ pub fn replace<K: Ord + Drop, V: Drop, A: Handle>(
     ensures moved { OnOk result (count.old.moves < count.new.moves) }
     ensures exchanged { IsSome (at K.cmp (entries map.old) key) → count.new.moves ≡ count.old.moves + 2 }
     ensures bounded { IsBounded (length (entries map.new)) count.old count.new }
+    ensures requests { OnOk result (at K.cmp (entries map.old) key ≡ None → asked.new.requests ≡ asked.old.requests + insertion_requests K.cmp key map.old) }
+    ensures at_most { asked.new.requests ≤ asked.old.requests + insertion_requests K.cmp key map.old }
+    ensures none { IsSome (at K.cmp (entries map.old) key) → asked.new.requests ≡ asked.old.requests }
+    ensures room { ¬ TakesNode K.cmp key map.old → asked.new.requests ≤ asked.old.requests }
+    ensures few { HasFewRequests (length (entries map.old) + 1) asked.old asked.new }
 {
     let mut path = Path::new();
     match map.locate(&key, &mut path, count) {
         Ok(()) => Ok(Some(map.exchange_at(&path, (key, value), count))),
-        Err(gap) => match map.insert_at(
-            &mut path,
-            gap.has_room,
-            key,
-            value,
-            count,
-            &mut Asked::new(),
-        ) {
+        Err(gap) => match map.insert_at(&mut path, gap.has_room, key, value, count, asked) {
             Ok(()) => Ok(None),
             Err(back) => Err(back),
         },

@@ -1,12 +1,13 @@
 //! Reservations: nodes allocated for many insertions, which nothing then refuses.
-ghost use Rattle.std.specs.Prelude.{◌≡◌, ◌+◌, ◌<◌, ◌↔◌, length, IsTrue, IsSome, IsOk, IsErr, IfOk, IfErr, None, if◌then◌else◌};
+ghost use Rattle.std.specs.Prelude.{◌≡◌, ℕ, ◌+◌, ◌*◌, ◌<◌, ◌≤◌, ◌↔◌, length, IsTrue, IsSome, IsOk, IsErr, IfOk, IfErr, None, if◌then◌else◌};
 ghost use Rattle.fc_map.specs.Counts.{IsBounded};
 ghost use Rattle.fc_map.specs.Entries.{IsSoundMap, passed_in};
+ghost use Rattle.fc_map.specs.Requests.{list_requests, IsFewestOver};
 ghost use Rattle.fc_map.specs.Reservation.{reservation_error};
 ghost use Rattle.fc_set.specs.Items.{items, item_at, AreAscending, with_item};
 
 use super::BTreeSet;
-use fc_base::{Count, Handle, TryReserveError};
+use fc_base::{Asked, Count, Handle, TryReserveError};
 use fc_map::map::Reservation;
 
 impl<T: Ord + Drop, A: Handle> BTreeSet<T, A> {
@@ -25,7 +26,27 @@ impl<T: Ord + Drop, A: Handle> BTreeSet<T, A> {
         ensures error { IfErr result (λ e. e ≡ reservation_error (length (items self.now)) insertions) }
         ensures overflow { reservation_error (length (items self.now)) insertions ≡ TryReserveError.CapacityOverflow → IsErr result }
     {
-        self.map.try_reserve_nodes(insertions)
+        self.try_reserve_nodes_asked(insertions, &mut Asked::new())
+    }
+
+    /// `try_reserve_nodes`, with its requests for memory added to `asked`, as `BTreeMap::try_reserve_nodes_asked` adds them.
+    ///
+    /// # Errors
+    /// As `try_reserve_nodes`.
+    pub fn try_reserve_nodes_asked(
+        &self,
+        insertions: usize,
+        asked: &mut Asked,
+    ) -> Result<Reservation<T, (), A>, TryReserveError>
+        ensures places { IfOk result (λ reservation. reservation.places ≡ insertions) }
+        ensures pairs { IfOk result (λ reservation. reservation.pairs ≡ length (items self.now) + insertions) }
+        ensures none { insertions ≡ 0 → IsOk result }
+        ensures error { IfErr result (λ e. e ≡ reservation_error (length (items self.now)) insertions) }
+        ensures overflow { reservation_error (length (items self.now)) insertions ≡ TryReserveError.CapacityOverflow → IsErr result }
+        ensures requests { IfOk result (λ _. (levels : ℕ) → IsFewestOver levels (length (items self.now) + insertions) → asked.new.requests ≡ asked.old.requests + list_requests 2 (insertions * levels)) }
+        ensures at_most { (levels : ℕ) → IsFewestOver levels (length (items self.now) + insertions) → asked.new.requests ≤ asked.old.requests + list_requests 2 (insertions * levels) }
+    {
+        self.map.try_reserve_nodes_asked(insertions, asked)
     }
 
     /// Puts the item into the set, as `try_insert`, with no memory but the reservation's, and so without a refusal: true where it is new, which uses

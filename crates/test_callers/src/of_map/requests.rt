@@ -1,4 +1,6 @@
-use callers_of_map::requests::{insert_below_thousand, put_hundred, write_hundred};
+use callers_of_map::requests::{
+    copy_below_thousand, insert_below_thousand, put_hundred, write_hundred,
+};
 use fc_base::{Asked, Count, TryReserveError};
 use fc_map::map::{BTreeMap, Entry, Reservation};
 use fc_set::set::BTreeSet;
@@ -102,6 +104,74 @@ fn a_set_that_counts_requests_does_as_one_that_does_not(rt: HostRuntime) -> Resu
     Ok(())
 }
 
+// Puts numbers in after all others, and then one among them whose value takes the place of another.
+fn is_joined(map: &mut Numbers, other: &mut Numbers) -> Result<bool, TryReserveError> {
+    put_sixteen(map)?;
+    other.try_insert(20, 20)?;
+    map.append_asked(other, &mut Count::new(), &mut Asked::new())?;
+    other.try_insert(5, 50)?;
+    map.append_asked(other, &mut Count::new(), &mut Asked::new())?;
+    Ok(map.len() == 17 && other.is_empty() && has(map, 5, 50) && has(map, 20, 20))
+}
+
+#[test]
+fn an_append_that_counts_requests_does_as_one_that_does_not(rt: HostRuntime) -> Result<(), Fail> {
+    let mut map = Numbers::new(rt.alloc());
+    let mut other = Numbers::new(rt.alloc());
+    assert!(rt; is_joined(&mut map, &mut other)?);
+    Ok(())
+}
+
+// Whether a copy of sixteen pairs has them.
+fn is_copied(map: &mut Numbers) -> Result<bool, TryReserveError> {
+    put_sixteen(map)?;
+    // example: BTreeMap::try_clone_asked
+    let asked = &mut Asked::new();
+    let copy = map.try_clone_asked(asked)?; // four: two leaves and a root above them
+    let is_whole = copy.len() == 16 && map.len() == 16;
+    // end
+    Ok(is_whole && has(&copy, 0, 0) && has(&copy, 15, 15))
+}
+
+#[test]
+fn a_copy_that_counts_requests_does_as_one_that_does_not(rt: HostRuntime) -> Result<(), Fail> {
+    let mut map = Numbers::new(rt.alloc());
+    assert!(rt; is_copied(&mut map)?);
+    Ok(())
+}
+
+// Puts 3 in, which an equal one then replaces, and 9 by another set.
+fn are_put(set: &mut BTreeSet<u64>, other: &mut BTreeSet<u64>) -> Result<bool, TryReserveError> {
+    let new = set.replace_asked(3, &mut Count::new(), &mut Asked::new())?;
+    let old = set.replace_asked(3, &mut Count::new(), &mut Asked::new())?;
+    let places = set.try_reserve_nodes_asked(2, &mut Asked::new())?.places();
+    other.try_insert(9)?;
+    set.append_asked(other, &mut Count::new(), &mut Asked::new())?;
+    Ok(new.is_none() && old == Some(3) && places == 2 && other.is_empty() && set.len() == 2)
+}
+
+fn is_copy(set: &BTreeSet<u64>) -> Result<bool, TryReserveError> {
+    // example: BTreeSet::try_clone_asked
+    let asked = &mut Asked::new();
+    let copy = set.try_clone_asked(asked)?; // one, for a leaf of two items
+    let is_whole = copy.len() == 2;
+    // end
+    Ok(is_whole && copy.contains(&3) && copy.contains(&9))
+}
+
+fn is_cut(set: &mut BTreeSet<u64>) -> Result<bool, TryReserveError> {
+    let rest = set.try_split_off_asked(&9, &mut Asked::new())?;
+    Ok(rest.len() == 1 && rest.contains(&9) && set.len() == 1)
+}
+
+#[test]
+fn whole_sets_that_count_requests_do_as_those_that_do_not(rt: HostRuntime) -> Result<(), Fail> {
+    let mut set = BTreeSet::new(rt.alloc());
+    let mut other = BTreeSet::new(rt.alloc());
+    assert!(rt; are_put(&mut set, &mut other)? && is_copy(&set)? && is_cut(&mut set)?);
+    Ok(())
+}
+
 // Writes another value at each number, and answers whether it stands there.
 fn is_written(alloc: Global) -> Result<bool, TryReserveError> {
     let mut map = Numbers::new(alloc);
@@ -130,5 +200,22 @@ fn a_pair_is_put_into_a_map_of_few(rt: HostRuntime) -> Result<(), Fail> {
     let mut map = Numbers::new(rt.alloc());
     assert!(rt; is_put(&mut map, 7, 70)?);
     assert!(rt; !is_put(&mut map, 7, 71)? && map.len() == 1 && has(&map, 7, 71));
+    Ok(())
+}
+
+// Whether a copy of sixteen pairs, made where there are fewer than a thousand, has them.
+fn is_copied_below_thousand(map: &mut Numbers) -> Result<bool, TryReserveError> {
+    put_sixteen(map)?;
+    if map.len() >= 1000 {
+        return Ok(false);
+    }
+    let copy = copy_below_thousand(map, &mut Asked::new())?;
+    Ok(copy.len() == 16 && has(&copy, 7, 7))
+}
+
+#[test]
+fn a_map_of_few_pairs_is_copied(rt: HostRuntime) -> Result<(), Fail> {
+    let mut map = Numbers::new(rt.alloc());
+    assert!(rt; is_copied_below_thousand(&mut map)?);
     Ok(())
 }

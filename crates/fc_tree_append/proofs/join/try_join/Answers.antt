@@ -54,3 +54,8 @@ returns-clause-sound g c =
     ∙ ap (λ o. entries c.args.ours.now ++ entries o) (sym (sym c.take-2.ensures.value ∙ c.in-Some-take-2.is)) in
     let n = ap length e ∙ length-append (entries c.args.ours.now) (entries c.args.theirs.now) in
     within_few most_levels c.join.result c.join.ensures.levels (omega arith)
+
+pub returns-clause-requests : goal.returns-clause-requests
+returns-clause-requests g c =
+    rw c.in-Some.is (rw c.in-Some-theirs.is (rw (← c.height-our_height.ensures, ← c.height-their_height.ensures)
+    (omega (arith, c.in_ok-spares.ensures.requests))))

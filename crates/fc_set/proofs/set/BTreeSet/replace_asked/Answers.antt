@@ -2,7 +2,7 @@ use Rattle.std.proofs.Common.{sym, ap, ◌∙◌, arith}
 use Rattle.std.specs.Option.{option_map}
 use Rattle.fc_map.specs.Entries.{entries}
 use Rattle.fc_set.proofs.ItemFacts.{keys, keys_length, item_at_keys, with_replaced_keys, ascending_keys, none_keys, keys_none, some_keys}
-use Rattle.fc_set.proofs.set.BTreeSet.replace_counted.Goals as goal
+use Rattle.fc_set.proofs.set.BTreeSet.replace_asked.Goals as goal
 
 pub returns-in-Ok-clause-old : goal.returns-in-Ok-clause-old
 returns-in-Ok-clause-old g c = rw (← c.self.view_is) (c.item_of.ensures ∙ ap (option_map (λ e. e.0)) c.in-Ok.ensures.old
@@ -34,3 +34,19 @@ returns-in-Err-clause-ascending g c = ascending_keys g.T.Ord.cmp _ c.replace.ens
 pub returns-in-Err-clause-only_full : goal.returns-in-Err-clause-only_full
 returns-in-Err-clause-only_full g c = rw (← c.self.view_is)
     (λ fits. c.in-Err.ensures.only_full (let e = keys_length (entries c.self.inside.map) in omega arith))
+
+pub returns-in-Ok-clause-requests : goal.returns-in-Ok-clause-requests
+returns-in-Ok-clause-requests g c = rw (← c.self.view_is)
+    (λ n. c.in-Ok.ensures.requests (none_keys g.T.Ord.cmp (entries c.self.inside.map) c.args.item n))
+
+pub returns-in-Ok-clause-none : goal.returns-in-Ok-clause-none
+returns-in-Ok-clause-none g c = rw (← c.self.view_is) (λ i. c.replace.ensures.none (some_keys g.T.Ord.cmp (entries c.self.inside.map) c.args.item i))
+
+pub returns-in-Ok-clause-few : goal.returns-in-Ok-clause-few
+returns-in-Ok-clause-few g c = rw (← c.self.view_is) (rw (keys_length (entries c.self.inside.map)) c.replace.ensures.few)
+
+pub returns-in-Err-clause-none : goal.returns-in-Err-clause-none
+returns-in-Err-clause-none g c = rw (← c.self.view_is) (λ i. c.replace.ensures.none (some_keys g.T.Ord.cmp (entries c.self.inside.map) c.args.item i))
+
+pub returns-in-Err-clause-few : goal.returns-in-Err-clause-few
+returns-in-Err-clause-few g c = rw (← c.self.view_is) (rw (keys_length (entries c.self.inside.map)) c.replace.ensures.few)

@@ -1,8 +1,9 @@
-use Rattle.std.proofs.Common.{sym, ap, ◌∙◌}
+use Rattle.std.proofs.Common.{◌<◌, length, sym, ap, ◌∙◌}
 use Rattle.std.proofs.lemmas.Result.{err_from_is_err_and}
 use Rattle.fc_map.specs.Entries.{entries}
-use Rattle.fc_set.proofs.ItemFacts.{keys, smaller_keys, not_smaller_keys, ascending_keys}
-use Rattle.fc_set.proofs.set.BTreeSet.try_split_off.Goals as goal
+use Rattle.fc_set.specs.Items.{items}
+use Rattle.fc_set.proofs.ItemFacts.{keys, smaller_keys, not_smaller_keys, ascending_keys, keys_length}
+use Rattle.fc_set.proofs.set.BTreeSet.try_split_off_asked.Goals as goal
 
 pub returns-clause-smaller : goal.returns-clause-smaller
 returns-clause-smaller g c = rw (← c.self.view_is) (ap keys c.in_ok-map.ensures.below
@@ -24,3 +25,15 @@ returns-clause-ascended g c = rw (← c.self.view_is) (ascending_keys g.T.Ord.cm
 
 pub returns-in_err-map-clause-ascended : goal.returns-in_err-map-clause-ascended
 returns-in_err-map-clause-ascended g c = rw (← c.self.view_is) (ascending_keys g.T.Ord.cmp (entries c.self.inside.map) c.in_err-map.ensures.ascended)
+
+pub returns-clause-few : goal.returns-clause-few
+returns-clause-few g c = rw (← c.self.view_is) (rw (keys_length (entries c.self.inside.map)) c.split_off_asked.ensures.few)
+
+pub returns-in_err-map-clause-few : goal.returns-in_err-map-clause-few
+returns-in_err-map-clause-few g c = rw (← c.self.view_is) (rw (keys_length (entries c.self.inside.map)) c.split_off_asked.ensures.few)
+
+pub returns-in_err-map-clause-error : goal.returns-in_err-map-clause-error
+returns-in_err-map-clause-error g c =
+    let p = err_from_is_err_and c.from_residual.result c.from_residual.ensures.1 in
+    let some : 0 < length (items c.args.self.now) = rw (← c.self.view_is) (rw (keys_length (entries c.self.inside.map)) c.in_err-map.ensures.error.1) in
+    rw (p.1, p.2) (c.in_err-map.ensures.error.0, some)

@@ -1,7 +1,7 @@
 use Rattle.std.proofs.lemmas.Result.{err_from_is_err_and}
 use Rattle.fc_map.specs.Entries.{entries}
 use Rattle.fc_set.proofs.ItemFacts.{ascending_keys, copied_keys, refused_keys}
-use Rattle.fc_set.proofs.set.whole.BTreeSetTryClone.try_clone.Goals as goal
+use Rattle.fc_set.proofs.set.BTreeSet.try_clone_asked.Goals as goal
 
 pub returns-clause-copied : goal.returns-clause-copied
 returns-clause-copied g c = rw (← c.self.view_is) (copied_keys g.T.TryClone.same _ (entries c.self.inside.map) _ c.in_ok-copy.ensures.copied)
