@@ -91,15 +91,17 @@ def stamped(crate):
 
 
 def functions(crates):
-    """Puts the dearest functions of these crates into the page's table, beside those of other crates that stand there."""
-    rows = re.findall(r"^\| `(\w+)::(\S+)` \| ([\d.]+) \|$", PAGE.read_text(encoding="utf-8"), re.M)
-    of = {f"{crate}::{name}": float(it) for crate, name, it in rows if crate not in crates}
+    """Puts the dearest functions of these crates into the page's table, beside those of other crates that stand there; what it is stays beside it."""
+    rows = re.findall(r"^\| `(\w+)::(\S+)` \| ([\d.]+) \| (.*) \|$", PAGE.read_text(encoding="utf-8"), re.M)
+    of = {f"{crate}::{name}": float(it) for crate, name, it, _ in rows if crate not in crates}
+    what = {f"{crate}::{name}": it for crate, name, _, it in rows}
     for crate in crates:
         found = stamped(crate)
         print(f"{crate}: {len(found)} functions, {sum(found.values()):.0f} processor seconds" if found else f"{crate}: it is not proved")
         of.update(found)
     dearest = sorted(of, key=lambda it: (-of[it], it))[:DEAREST]
-    written("dearest", ["| Function | Processor seconds |", "|---|---|", *(f"| `{it}` | {of[it]:.1f} |" for it in dearest)])
+    lines = [f"| `{it}` | {of[it]:.1f} | {what.get(it, '')} |" for it in dearest]
+    written("dearest", ["| Function | Processor seconds | It is |", "|---|---|---|", *lines])
 
 
 def edits_of(crate):
