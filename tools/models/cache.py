@@ -12,7 +12,7 @@ class Cache(Model):
     """Entries, each a key, a value and a cost, from the least to the most lately used."""
 
     KINDS = {
-        "put": (3, {"too large", "refused", "refused over another", *(f"{key}, {gone}" for key in ("new", "there") for gone in ("none goes", "one goes", "more go", "all others go"))}),
+        "put": (3, {"too large", "refused", *(f"{key}, {gone}" for key in ("new", "there") for gone in ("none goes", "one goes", "more go", "all others go"))}),
         "get": (1, FOUND),
         "peek": (1, FOUND),
         "remove": (1, FOUND),
@@ -33,7 +33,7 @@ class Cache(Model):
         is_new = len(others) == len(self.held)
         met = "none goes" if not gone else "all others go" if gone == len(others) else "one goes" if gone == 1 else "more go"
         lay = lambda: self.become([*others[gone:], (key, value, cost)])
-        return Answer(["put"], f"{'new' if is_new else 'there'}, {met}", lay, "refused" if is_new else "refused over another")
+        return Answer(["put"], f"{'new' if is_new else 'there'}, {met}", lay, "refused" if is_new else None)
 
     def become(self, entries):
         self.held = entries

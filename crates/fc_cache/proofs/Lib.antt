@@ -1,7 +1,5 @@
-mod Chains
 mod Costs
-mod Found
+mod Evicted
 pub mod Laws
 mod Recent
-mod Rings
-mod Written
+mod Reversed

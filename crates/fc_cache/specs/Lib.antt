@@ -1,5 +1,5 @@
-pub mod Chains
 pub mod Entries
+pub mod Handed
 pub mod Lends
-pub mod Links
 pub mod Recent
+pub mod RecentLends

@@ -1,20 +1,23 @@
 //! The cache: entries in the order of their last use, whose costs keep within a budget.
-ghost use Rattle.std.specs.Prelude.{◌≡◌, ◌↔◌, ◌≤◌, [], ◌∷◌, length, None, IfSome, IsNone, IsTrue, OnOk, OnErr, IfErr, option_map};
+ghost use Rattle.std.specs.Prelude.{◌≡◌, ◌↔◌, ◌≤◌, [], ◌∷◌, ◌++◌, List, length, IfSome, IsSome, IsNone, IsTrue, IsOk, OnOk, OnErr, IfErr, is_some, slice_get, option_map};
 ghost use Rattle.std.specs.Borrow.{sem};
-ghost use Rattle.std.specs.List.{IsDistinct};
-ghost use Rattle.std.specs.Map.{keys_of, lookup, remove_entry};
-ghost use Rattle.std.specs.Option.{option_copied};
+ghost use Rattle.std.specs.Map.{lookup, remove_entry};
+ghost use Rattle.std.specs.Map.Iter.{deref_pair};
+ghost use Rattle.std.specs.Option.{option_copied, option_map_or};
+ghost use Rattle.fc_cache.specs.Handed.{GivenEntry, HandsInTurn};
 
 use crate::held::Held;
 use crate::put_error::PutError;
 use crate::recency::Recency;
-use fc_base::Handle;
+use fc_base::{Handle, TryReserveError};
 use std::alloc::Global;
+use std::collections::hash_map::Equivalent;
 use std::hash::Hash;
 use std::marker::Model;
 
 /// A map from keys to values within a budget, each of whose entries costs what its caller says: 1 where entries are counted, or their
-/// bytes. An entry that is put in evicts those that were used least lately, as many as its cost needs. Only `try_put` takes memory.
+/// bytes. An entry that is put in evicts those that were used least lately, as many as its cost needs. Only `try_put` and
+/// `try_put_with` take memory.
 ///
 /// Keys are found by their hashes, by std's fixed hasher: whoever chooses the keys can choose many of one hash, and each call then looks
 /// at all of them.
@@ -36,7 +39,7 @@ impl<K: Eq + Hash, V, A: Handle> Model for Cache<K, V, A> {
     ghost invariant = { λ c. (c.used ≡ total_cost c.recency.entries) × (c.used ≤ c.budget) };
 }
 
-impl<K: Eq + Hash + Copy, V, A: Handle> Cache<K, V, A> {
+impl<K: Eq + Hash, V, A: Handle> Cache<K, V, A> {
     ghost use Rattle.fc_cache.specs.Entries.{IsCached, total_cost};
     ghost use Rattle.fc_cache.specs.Lends.{ends_used_in};
 
@@ -82,37 +85,85 @@ impl<K: Eq + Hash + Copy, V, A: Handle> Cache<K, V, A> {
         self.budget
     }
 
-    /// The value at the key that is equal to this one, which is then the most lately used. `None` where there is none. It takes no memory.
-    pub fn get(&mut self, key: &K) -> Option<&V>
-        ensures* used { sem 𝓛 (ends_used_in K.row V.row A.row K.Hash A.Allocator self.entry key.now) }
-        ensures value { option_copied result ≡ option_map (λ h. h.value) (lookup (K.eq key.now) self.old.entries) }
+    /// Whether there is a key that is equal to this one. It does not count as a use.
+    pub fn contains_key<Q: Equivalent<K>>(&self, key: Q) -> bool
+        ensures { result ≡ is_some (lookup (Q.equivalent key) self.now.entries) }
     {
-        self.recency.touch(key);
+        self.recency.peek(key).is_some()
+    }
+
+    /// What the entry at the key that is equal to this one costs. `None` where there is none. It does not count as a use.
+    pub fn cost_of<Q: Equivalent<K>>(&self, key: Q) -> Option<usize>
+        ensures { result ≡ option_map (λ h. h.cost) (lookup (Q.equivalent key) self.now.entries) }
+    {
+        let held = self.recency.peek(key)?;
+        Some(held.cost)
+    }
+
+    /// The value at the key that is equal to this one, which is then the most lately used. `None` where there is none. It takes no memory.
+    pub fn get<Q: Equivalent<K>>(&mut self, key: Q) -> Option<&V>
+        ensures* used { sem 𝓛 (ends_used_in K.row V.row A.row K.Hash A.Allocator self.entry (Q.equivalent key)) }
+        ensures value { option_copied result ≡ option_map (λ h. h.value) (lookup (Q.equivalent key) self.old.entries) }
+    {
         let held = self.recency.get(key)?;
         Some(&held.value)
     }
 
     /// The value at the key that is equal to this one, which does not count as a use. `None` where there is none.
-    pub fn peek(&self, key: &K) -> Option<&V>
-        ensures { option_copied result ≡ option_map (λ h. h.value) (lookup (K.eq key.now) self.now.entries) }
+    pub fn peek<Q: Equivalent<K>>(&self, key: Q) -> Option<&V>
+        ensures { option_copied result ≡ option_map (λ h. h.value) (lookup (Q.equivalent key) self.now.entries) }
     {
-        let held = self.recency.get(key)?;
+        let held = self.recency.peek(key)?;
         Some(&held.value)
+    }
+
+    /// The key and the value of the entry that was used least lately, which does not count as a use. `None` where there is none.
+    pub fn peek_oldest(&self) -> Option<(&K, &V)>
+        ensures { option_map deref_pair result ≡ option_map (λ e. (e.0, e.1.value)) (slice_get self.now.entries 0) }
+    {
+        let (key, held) = self.recency.peek_first()?;
+        Some((key, &held.value))
     }
 }
 
-impl<K: Eq + Hash + Copy + Drop, V: Drop, A: Handle> Cache<K, V, A> {
-    ghost use Rattle.fc_cache.specs.Entries.{IsRefusal, IsOldest, with_entry};
+impl<K: Eq + Hash + Drop, V: Drop, A: Handle> Cache<K, V, A> {
+    ghost use Rattle.fc_cache.specs.Entries.{IsRefusal, IsOldest, handed_out, rest_within, with_entry};
 
-    /// Puts an entry in as the most lately used. An entry at an equal key is dropped, and of the others, from the least lately used on, as
-    /// many as it takes for the costs of all to be within the budget.
+    /// Puts an entry in as the most lately used. Where there is one at an equal key, that key stays, and the old value is dropped with the
+    /// key that came in; and of the others, from the least lately used on, as many as it takes for the costs of all to be within the budget.
     ///
     /// # Errors
-    /// `OverBudget` exactly where the cost is above the whole budget, and `Refused` where room for the entry was refused. All of it is taken
-    /// before the first change: the cache is as it was, and key and value come back.
+    /// `OverBudget` exactly where the cost is above the whole budget, and `Refused` where the key is new and room for the entry was refused:
+    /// a block for itself, what the map of the keys grows by, and for the first entry two blocks more. The cache is then as it was, and key
+    /// and value come back.
     pub fn try_put(&mut self, key: K, value: V, cost: usize) -> Result<(), (PutError, K, V)>
         ensures put { OnOk result (self.new ≡ with_entry K.eq self.old key (record { value = value; cost = cost })) }
         ensures fits { OnOk result (cost ≤ self.old.budget) }
+        ensures succeeds { cost ≤ self.old.budget → IsSome (lookup (K.eq key) self.old.entries) → IsOk result }
+        ensures error { IfErr result (λ e. IsRefusal self.old.budget cost (length self.old.entries) e.0) }
+        ensures back { IfErr result (λ e. (e.1 ≡ key) × (e.2 ≡ value)) }
+        ensures unchanged { OnErr result (self.new ≡ self.old) }
+    {
+        self.try_put_with(key, value, cost, |_key, _value| ())
+    }
+
+    /// `try_put` that hands the closure what it takes out, one after another: the old value, with the key that came in, and then the keys and
+    /// values of what it evicts, from the least lately used on.
+    ///
+    /// # Errors
+    /// Those of `try_put`. The cache is then as it was, key and value come back, and the closure was not called.
+    pub fn try_put_with<F: FnMut(K, V)>(
+        &mut self,
+        key: K,
+        value: V,
+        cost: usize,
+        mut f: F,
+    ) -> Result<(), (PutError, K, V)>
+        requires callable { F.IsAlwaysCallable f }
+        ensures put { OnOk result (self.new ≡ with_entry K.eq self.old key (record { value = value; cost = cost })) }
+        ensures handed { OnOk result ((last : F) × HandsInTurn (GivenEntry F.FnMut) f (handed_out K.eq self.old key cost) last) }
+        ensures fits { OnOk result (cost ≤ self.old.budget) }
+        ensures succeeds { cost ≤ self.old.budget → IsSome (lookup (K.eq key) self.old.entries) → IsOk result }
         ensures error { IfErr result (λ e. IsRefusal self.old.budget cost (length self.old.entries) e.0) }
         ensures back { IfErr result (λ e. (e.1 ≡ key) × (e.2 ≡ value)) }
         ensures unchanged { OnErr result (self.new ≡ self.old) }
@@ -120,26 +171,47 @@ impl<K: Eq + Hash + Copy + Drop, V: Drop, A: Handle> Cache<K, V, A> {
         if self.budget < cost {
             return Err((PutError::OverBudget, key, value));
         }
-        match self.recency.reserve_one() {
-            Ok(()) => {
-                let used = drop_at(&mut self.recency, &key, self.used);
-                let used = evict(&mut self.recency, used, self.budget - cost);
-                self.recency.push(key, Held { value, cost });
-                self.used = used + cost;
+        match self.recency.push(key, Held { value, cost }) {
+            Ok(replaced) => {
+                let others = self.used - hand_over(replaced, &mut f);
+                let limit = self.budget - cost;
+                self.used = evict(&mut self.recency, others, limit, &mut f) + cost;
                 Ok(())
             }
-            Err(error) => Err((PutError::Refused(error), key, value)),
+            Err((key, held)) => {
+                // One entry more never passes the greatest length, so only the room was refused.
+                let _len = self.recency.len();
+                let refused = PutError::Refused(TryReserveError::AllocError);
+                Err((refused, key, held.value))
+            }
         }
     }
 
     /// Takes out the entry at the key that is equal to this one, and answers its value. `None` where there is none. It takes no memory.
-    pub fn remove(&mut self, key: &K) -> Option<V>
-        ensures value { result ≡ option_map (λ h. h.value) (lookup (K.eq key.now) self.old.entries) }
-        ensures entries { self.new ≡ record { entries = remove_entry (K.eq key.now) self.old.entries; budget = self.old.budget } }
+    pub fn remove<Q: Equivalent<K>>(&mut self, key: Q) -> Option<V>
+        ensures value { result ≡ option_map (λ h. h.value) (lookup (Q.equivalent key) self.old.entries) }
+        ensures entries { self.new ≡ record { entries = remove_entry (Q.equivalent key) self.old.entries; budget = self.old.budget } }
     {
         let (_key, held) = self.recency.take(key)?;
         self.used -= held.cost;
         Some(held.value)
+    }
+
+    /// Takes out all entries, and drops them. It takes no memory.
+    pub fn clear(&mut self)
+        ensures { self.new ≡ record { entries = []; budget = self.old.budget } }
+    {
+        self.recency.clear();
+        self.used = 0;
+    }
+
+    /// Sets the greatest sum of costs, and drops entries, from the least lately used on, as many as it takes for the costs of all to be within
+    /// it. It takes no memory.
+    pub fn set_budget(&mut self, budget: usize)
+        ensures { self.new ≡ record { entries = rest_within budget self.old.entries; budget = budget } }
+    {
+        self.used = evict(&mut self.recency, self.used, budget, &mut |_key, _value| ());
+        self.budget = budget;
     }
 
     /// Takes out the entry that was used least lately. `None` where there is none. It takes no memory.
@@ -154,44 +226,47 @@ impl<K: Eq + Hash + Copy + Drop, V: Drop, A: Handle> Cache<K, V, A> {
     }
 }
 
-ghost use Rattle.fc_cache.specs.Entries.{rest_within, total_cost};
+ghost use Rattle.fc_cache.specs.Entries.{evicted_within, pairs_of, rest_within, total_cost};
+ghost use Rattle.std.specs.Option.{option_to_list};
 
-// Drops the entry at a key, and answers what the others cost, of the costs of all.
-fn drop_at<K: Eq + Hash + Copy + Drop, V: Drop, A: Handle>(
-    recency: &mut Recency<K, V, A>,
-    key: &K,
-    used: usize,
-) -> usize
-    requires { used ≡ total_cost recency.old.entries }
-    ensures entries { recency.new.entries ≡ remove_entry (K.eq key.now) recency.old.entries }
-    ensures gone { lookup (K.eq key.now) recency.new.entries ≡ None }
-    ensures used { result ≡ total_cost recency.new.entries }
-    ensures spare { recency.old.spare ≤ recency.new.spare }
+// Hands over what was replaced, and answers what it cost.
+fn hand_over<K, V, F: FnMut(K, V)>(replaced: Option<(K, Held<V>)>, f: &mut F) -> usize
+    requires callable { F.IsAlwaysCallable f.old }
+    ensures cost { result ≡ option_map_or (λ e. e.1.cost) replaced 0 }
+    ensures handed { HandsInTurn (GivenEntry F.FnMut) f.old (pairs_of (option_to_list replaced)) f.new }
+    ensures callable { F.IsAlwaysCallable f.new }
 {
-    match recency.take(key) {
-        Some((_key, held)) => used - held.cost,
-        None => used,
+    match replaced {
+        Some((key, held)) => {
+            let cost = held.cost;
+            f(key, held.value);
+            cost
+        }
+        None => 0,
     }
 }
 
-// Drops entries, from the least lately used on, until the costs are within a limit, and answers these.
-fn evict<K: Eq + Hash + Copy + Drop, V: Drop, A: Handle>(
+// Hands entries over, from the least lately used on, until the costs of those before some that stay are within a limit, and answers these.
+fn evict<K: Eq + Hash, V, A: Handle, F: FnMut(K, V)>(
     recency: &mut Recency<K, V, A>,
     used: usize,
     limit: usize,
+    f: &mut F,
 ) -> usize
-    requires { used ≡ total_cost recency.old.entries }
-    ensures entries { recency.new.entries ≡ rest_within limit recency.old.entries }
-    ensures used { result ≡ total_cost recency.new.entries }
+    requires sum { (others stay : List (K × Held V)) × (recency.old.entries ≡ others ++ stay) × (used ≡ total_cost others) }
+    requires callable { F.IsAlwaysCallable f.old }
+    ensures entries { (others stay : List (K × Held V)) → recency.old.entries ≡ others ++ stay → used ≡ total_cost others → (recency.new.entries ≡ rest_within limit others ++ stay) × (result ≡ total_cost (rest_within limit others)) }
+    ensures handed { (others stay : List (K × Held V)) → recency.old.entries ≡ others ++ stay → used ≡ total_cost others → HandsInTurn (GivenEntry F.FnMut) f.old (pairs_of (evicted_within limit others)) f.new }
+    ensures callable { F.IsAlwaysCallable f.new }
     ensures within { result ≤ limit }
-    ensures spare { recency.old.spare ≤ recency.new.spare }
 {
     let mut used = used;
     'entries: while limit < used {
-        let Some((_key, held)) = recency.take_first() else {
+        let Some((key, held)) = recency.take_first() else {
             return used;
         };
         used -= held.cost;
+        f(key, held.value);
     }
     used
 }

@@ -3,7 +3,6 @@
 
 pub mod cache;
 pub mod held;
-mod links;
 pub mod put_error;
 mod recency;
 

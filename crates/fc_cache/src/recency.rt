@@ -1,139 +1,174 @@
-//! Entries in the order of their last use.
-ghost use Rattle.std.specs.Prelude.{◌≡◌, ◌<◌, ◌≤◌, [], ◌∷◌, ◌++◌, length, None, true, MatchOption, OnOk, IfErr};
+//! Entries in the order of their last use, in the toolchain's `LruCache`, which is made for the first of them.
+ghost use Rattle.std.specs.Prelude.{◌≡◌, ◌^◌, ◌<◌, [], ◌∷◌, ◌++◌, length, None, IsSome, IsOk, IfOk, OnErr, OnOk, IfErr, MatchOption, slice_get, option_map};
+ghost use Rattle.std.specs.Borrow.{sem};
 ghost use Rattle.std.specs.List.{IsDistinct};
 ghost use Rattle.std.specs.Map.{keys_of, lookup, lookup_entry, remove_entry};
+ghost use Rattle.std.specs.Map.Iter.{deref_pair};
 ghost use Rattle.std.specs.Option.{option_copied};
-ghost use Rattle.fc_base.specs.Growth.{append_error};
 
 use crate::held::Held;
-use crate::links::Links;
-use fc_base::{Handle, TryReserveError};
-use fc_hash::TryHashMap;
+use fc_base::Handle;
+use lru::{DefaultHasher, LruCache};
+use std::collections::hash_map::Equivalent;
 use std::hash::Hash;
 use std::marker::Model;
 
 /// Entries with different keys, from the least to the most lately used.
 #[derive(Drop)]
 pub(crate) struct Recency<K: Eq + Hash, V, A: Handle> {
-    links: Links<K, V, A>,
+    // None until the first entry is put in: its two ends take memory.
+    ring: Option<LruCache<K, Held<V>, DefaultHasher, A>>,
+    alloc: A,
 }
 
 impl<K: Eq + Hash, V, A: Handle> Model for Recency<K, V, A> {
-    ghost use Rattle.fc_cache.specs.Recent.{Recent};
+    ghost use Rattle.fc_cache.specs.Recent.{Recent, entries_of, IsUnbounded};
 
     ghost Value = { Recent K V };
 
-    ghost use Rattle.fc_cache.specs.Links.{entries_of, IsSound};
+    ghost view = { λ r. record { entries = entries_of r.ring } };
 
-    ghost view = { λ r. record { entries = entries_of K.eq r.links; spare = r.links.map.spare } };
-
-    ghost invariant = { λ r. IsSound K.eq r.links (entries_of K.eq r.links) };
+    ghost invariant = { λ r. IsUnbounded r.ring };
 }
 
-impl<K: Eq + Hash + Copy, V, A: Handle> Recency<K, V, A> {
+impl<K: Eq + Hash, V, A: Handle> Recency<K, V, A> {
     ghost use Rattle.fc_cache.specs.Entries.{used_last};
+    ghost use Rattle.fc_cache.specs.RecentLends.{ends_recent_in};
 
     /// No entries, which take no memory.
     pub(crate) fn new(alloc: A) -> Recency<K, V, A>
         ensures { result.entries ≡ [] }
     {
-        Recency {
-            links: Links {
-                map: TryHashMap::new(alloc),
-                first: None,
-                last: None,
-            },
-        }
+        Recency { ring: None, alloc }
     }
 
     /// The number of entries.
     pub(crate) fn len(&self) -> usize
         ensures len { result ≡ length self.now.entries }
+        ensures fits { result < 2 ^ 63 }
         ensures distinct { IsDistinct K.eq (keys_of self.now.entries) }
     {
-        self.links.map.len()
+        match &self.ring {
+            Some(ring) => ring.len(),
+            None => 0,
+        }
+    }
+
+    /// What is held at a key, which is then the most lately used.
+    pub(crate) fn get<Q: Equivalent<K>>(&mut self, key: Q) -> Option<&Held<V>>
+        ensures* used { sem 𝓛 (ends_recent_in K.row V.row A.row K.Hash A.Allocator self.entry (used_last (Q.equivalent key) self.old.entries)) }
+        ensures value { option_copied result ≡ lookup (Q.equivalent key) self.old.entries }
+    {
+        let ring = self.ring.as_mut()?;
+        // No two keys are equal: the ring tells that by its length.
+        let _known = ring.len();
+        ring.get(key)
     }
 
     /// What is held at a key.
-    pub(crate) fn get(&self, key: &K) -> Option<&Held<V>>
-        ensures { option_copied result ≡ lookup (K.eq key.now) self.now.entries }
+    pub(crate) fn peek<Q: Equivalent<K>>(&self, key: Q) -> Option<&Held<V>>
+        ensures { option_copied result ≡ lookup (Q.equivalent key) self.now.entries }
     {
-        let link = self.links.map.get(key)?;
-        Some(&link.held)
+        let ring = self.ring.as_ref()?;
+        let _known = ring.len();
+        ring.peek(key)
     }
 
-    /// Makes room for one more entry.
-    pub(crate) fn reserve_one(&mut self) -> Result<(), TryReserveError>
-        ensures entries { self.new.entries ≡ self.old.entries }
-        ensures room { OnOk result (0 < self.new.spare) }
-        ensures error { IfErr result (λ e. e ≡ append_error (length self.old.entries) 1) }
+    /// The entry that was used least lately.
+    pub(crate) fn peek_first(&self) -> Option<(&K, &Held<V>)>
+        ensures { option_map deref_pair result ≡ slice_get self.now.entries 0 }
     {
-        self.links.map.reserve(1)
+        let ring = self.ring.as_ref()?;
+        ring.peek_lru()
     }
 
-    /// Has the entry at a key be the most lately used.
-    pub(crate) fn touch(&mut self, key: &K)
-        ensures entries { self.new.entries ≡ used_last K.eq key.now self.old.entries }
-        ensures value { lookup (K.eq key.now) self.new.entries ≡ lookup (K.eq key.now) self.old.entries }
-    {
-        if !self.is_last(key) {
-            self.move_last(key);
-        }
-    }
-
-    // Whether the entry at a key is the most lately used already.
-    fn is_last(&self, key: &K) -> bool
-        ensures { result ≡ true → used_last K.eq key.now self.now.entries ≡ self.now.entries }
-    {
-        match self.links.last {
-            Some(last) => last == *key,
-            None => false,
-        }
-    }
-
-    // `touch` of an entry wherever it stands.
-    fn move_last(&mut self, key: &K)
-        ensures entries { self.new.entries ≡ used_last K.eq key.now self.old.entries }
-        ensures value { lookup (K.eq key.now) self.new.entries ≡ lookup (K.eq key.now) self.old.entries }
-    {
-        match self.links.cut(key) {
-            Some(stored) => self.links.join_last(stored),
-            None => (),
-        }
-    }
-}
-
-impl<K: Eq + Hash + Copy + Drop, V: Drop, A: Handle> Recency<K, V, A> {
     /// Takes the entry at a key out.
-    pub(crate) fn take(&mut self, key: &K) -> Option<(K, Held<V>)>
-        ensures taken { result ≡ lookup_entry (K.eq key.now) self.old.entries }
-        ensures entries { self.new.entries ≡ remove_entry (K.eq key.now) self.old.entries }
-        ensures gone { lookup (K.eq key.now) self.new.entries ≡ None }
-        ensures spare { self.old.spare ≤ self.new.spare }
+    pub(crate) fn take<Q: Equivalent<K>>(&mut self, key: Q) -> Option<(K, Held<V>)>
+        ensures taken { result ≡ lookup_entry (Q.equivalent key) self.old.entries }
+        ensures entries { self.new.entries ≡ remove_entry (Q.equivalent key) self.old.entries }
     {
-        let stored = self.links.cut(key)?;
-        let held = self.links.take_out(&stored)?;
-        Some((stored, held))
+        match &mut self.ring {
+            Some(ring) => {
+                let _known = ring.len();
+                ring.pop_entry(key)
+            }
+            None => None,
+        }
     }
 
     /// Takes the entry out that was used least lately.
     pub(crate) fn take_first(&mut self) -> Option<(K, Held<V>)>
         ensures taken { MatchOption result ((self.old.entries ≡ []) × (self.new.entries ≡ [])) (λ e. self.old.entries ≡ e ∷ self.new.entries) }
-        ensures spare { self.old.spare ≤ self.new.spare }
     {
-        match self.links.first {
-            Some(key) => self.take(&key),
+        match &mut self.ring {
+            Some(ring) => ring.pop_lru(),
             None => None,
         }
     }
+}
 
-    /// Puts an entry in as the most lately used, where there is room for it and its key is new.
-    pub(crate) fn push(&mut self, key: K, held: Held<V>)
-        requires new_key { lookup (K.eq key) self.old.entries ≡ None }
-        requires room { 0 < self.old.spare }
-        ensures { self.new.entries ≡ self.old.entries ++ (key, held) ∷ [] }
+impl<K: Eq + Hash + Drop, V: Drop, A: Handle> Recency<K, V, A> {
+    ghost use Rattle.fc_cache.specs.Entries.{key_at};
+
+    /// Takes all entries out, and drops them.
+    pub(crate) fn clear(&mut self)
+        ensures { self.new.entries ≡ [] }
     {
-        self.links.put_in(key, held);
-        self.links.join_last(key);
+        match &mut self.ring {
+            Some(ring) => ring.clear(),
+            None => (),
+        }
+    }
+
+    /// Puts an entry in as the most lately used. Where there is one at an equal key, its key stays, and what was held at it is handed back
+    /// with the key that came in.
+    pub(crate) fn push(
+        &mut self,
+        key: K,
+        held: Held<V>,
+    ) -> Result<Option<(K, Held<V>)>, (K, Held<V>)>
+        ensures old { IfOk result (λ old. old ≡ option_map (λ h. (key, h)) (lookup (K.eq key) self.old.entries)) }
+        ensures entries { OnOk result (self.new.entries ≡ remove_entry (K.eq key) self.old.entries ++ (key_at (K.eq key) self.old.entries key, held) ∷ []) }
+        ensures back { IfErr result (λ e. e ≡ (key, held)) }
+        ensures unchanged { OnErr result (self.new.entries ≡ self.old.entries) }
+        ensures succeeds { IsSome (lookup (K.eq key) self.old.entries) → IsOk result }
+    {
+        match &mut self.ring {
+            Some(ring) => push_to(ring, key, held),
+            None => {
+                let Ok(mut ring) = LruCache::unbounded(self.alloc) else {
+                    return Err((key, held));
+                };
+                let old = push_to(&mut ring, key, held)?;
+                self.ring = Some(ring);
+                Ok(old)
+            }
+        }
+    }
+}
+
+ghost use Rattle.lru.specs.LruCache.{lru_cache, put_entries};
+ghost use Rattle.std.specs.Prelude.{◌-◌};
+
+// `push` into the ring, which is never full.
+fn push_to<K: Eq + Hash, V, A: Handle>(
+    ring: &mut LruCache<K, Held<V>, DefaultHasher, A>,
+    key: K,
+    held: Held<V>,
+) -> Result<Option<(K, Held<V>)>, (K, Held<V>)>
+    requires { ring.old.cap ≡ 2 ^ 64 - 1 }
+    ensures old { IfOk result (λ old. old ≡ option_map (λ h. (key, h)) (lookup (K.eq key) ring.old.entries)) }
+    ensures entries { OnOk result (ring.new ≡ lru_cache (put_entries K.eq ring.old key held) ring.old.cap) }
+    ensures back { IfErr result (λ e. e ≡ (key, held)) }
+    ensures unchanged { OnErr result (ring.new ≡ ring.old) }
+    ensures succeeds { IsSome (lookup (K.eq key) ring.old.entries) → IsOk result }
+    ensures few { length ring.old.entries < 2 ^ 63 }
+    ensures distinct { IsDistinct K.eq (keys_of ring.old.entries) }
+{
+    // So many entries never fill it, and no two keys are equal.
+    let _len = ring.len();
+    match ring.push(key, held) {
+        Ok(old) => Ok(old),
+        Err(failed) => Err(failed.value),
     }
 }

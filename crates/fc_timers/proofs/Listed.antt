@@ -3,7 +3,7 @@ use Rattle.std.proofs.Common.{◌≡◌, ◌≢◌, ℕ, zero, suc, ◌^◌, ◌
 use Rattle.std.proofs.Common.{◌++◌, length, get_or, set, Option, Some, None, refl, sym, ap, subst, ◌∙◌, arith}
 use Rattle.std.proofs.lemmas.List.{get_or-set_same, get_or-set_other, get_or_push, get_or_append_left, length-set, length_push}
 use Rattle.fc_timers.specs.declared.timer.Armed.{Armed}
-use Rattle.fc_timers.specs.Tournament.{IsVacantList}
+use Rattle.fc_timers.specs.Heap.{IsVacantList}
 use Rattle.fc_timers.proofs.Standing.{get_or_push_none}
 
 module _ {T V : Type 0} where
@@ -63,6 +63,11 @@ module _ {T V : Type 0} where
         subst (IsVacantList (h ++ None ∷ []) (x ++ from ∷ []) n) (sym (get_or_push x from 0 (length h) same)) rest,
       )
 
-  -- The same of equal lists.
-  pub listed_as : (h more : List (Option (Armed T V))) (x next : List ℕ) (n k : ℕ) → more ≡ h → next ≡ x → IsVacantList h x n k → IsVacantList more next n k
-  listed_as h more x next n k e f p = subst (λ l. IsVacantList l next n k) (sym e) (subst (λ l. IsVacantList h l n k) (sym f) p)
+  -- The same of an equal list of slots, of which the vacant ones lead where they led.
+  pub listed_as : (h more : List (Option (Armed T V))) (x next : List ℕ) (n k : ℕ) → more ≡ h
+      → ((j : ℕ) → get_or more j None ≡ None → get_or next j 0 ≡ get_or x j 0) → IsVacantList h x n k → IsVacantList more next n k
+  listed_as h more x next zero k e f p = p
+  listed_as h more x next (suc n) k e f p =
+      let none : get_or more k None ≡ None = ap (λ l. get_or l k None) e ∙ p.1 in
+      let rest = listed_as h more x next n (get_or x k 0) e f p.2 in
+      (omega (arith, p.0, ap length e), none, subst (IsVacantList more next n) (sym (f k none)) rest)

@@ -14,10 +14,10 @@ use Rattle.std.specs.declared.cmp.Ordering.{Ordering}
 use Rattle.std.specs.declared.cmp.Ordering.TheVariants.{Less, Equal, Greater}
 use Rattle.fc_timers.specs.declared.timer.Timer.{Timer}
 use Rattle.fc_timers.specs.declared.timer.Armed.{Armed}
-use Rattle.fc_timers.specs.declared.slot.First.{First}
+use Rattle.fc_timers.specs.declared.slot.Due.{Due}
 use Rattle.fc_timers.specs.Timers.{Queue, armed, with_number, by_turn, precedes, timer_count, AreGivenOut, HasNone, IsChanged}
-use Rattle.fc_timers.specs.Tournament.{own_first, IsSettledBut, IsGivenOut, IsFirst}
-use Rattle.fc_timers.proofs.Settled.{IsAtMost, stands, top_first}
+use Rattle.fc_timers.specs.Heap.{IsAtMost, IsFirst, IsGivenOut, IsIndexed, IsOrdered, own_due}
+use Rattle.fc_timers.proofs.Heaps.{order_top}
 
 module _ {X Y : Type 0} (f : X → Option Y) where
   -- What f gives of the item at a place, as a slice lends it, and nothing after the end.
@@ -174,41 +174,45 @@ module _ {T V : Type 0} {cmp : T → T → Ordering} (o : IsTotalOrder cmp) wher
       by_test true e = e
       by_test false e = let early = upto o a.at b.at now (not_after _ _ first) e in absurd cc
 
-  module _ (q : Queue T V) (first : List (Option (First T))) (s : IsSettledBut cmp q.slots first 0) where
-    unnamed : (k : ℕ) (h : Option (Armed T V)) → IsAtMost cmp None (own_first k h) → h ≡ None
-    unnamed k None p = refl
-    unnamed k (Some a) p = absurd p
+  module _ (q : Queue T V) (due : ℕ → Option (Due T)) (link : ℕ → ℕ) (n : ℕ) (i : IsIndexed (λ k. get_or q.slots k None) due link n)
+      (s : IsOrdered cmp due) where
+    -- What stands at the first place is due after no timer.
+    top_first : (k : ℕ) (a : Armed T V) → get_or q.slots k None ≡ Some a → IsAtMost cmp (due 0) (own_due k (Some a))
+    top_first k a held = subst (IsAtMost cmp (due 0)) (i.placed k a held) (order_top o due s (link k) (link k) (omega arith))
 
-    -- Where the slot at the top names none, no slot holds a timer.
-    pub none_held : get_or first 0 None ≡ None → (k : ℕ) → get_or q.slots k None ≡ None
-    none_held none k = unnamed k _ (subst (λ x. IsAtMost cmp x (own_first k (get_or q.slots k None))) none (top_first q.slots first s o k))
+    -- Where nothing stands there, no slot holds a timer.
+    pub none_held : due 0 ≡ None → (k : ℕ) → get_or q.slots k None ≡ None
+    none_held none k = go (get_or q.slots k None) refl
+      where
+        go : (h : Option (Armed T V)) → get_or q.slots k None ≡ h → get_or q.slots k None ≡ None
+        go None e = e
+        go (Some a) e = absurd (subst (λ x. IsAtMost cmp x (own_due k (Some a))) none (top_first k a e))
 
-    pub none_stands : get_or first 0 None ≡ None → HasNone q × (timer_count q ≡ 0)
+    pub none_stands : due 0 ≡ None → HasNone q × (timer_count q ≡ 0)
     none_stands none = (λ timer. ap (with_number timer.number) (none_held none timer.slot), count_none q.slots (none_held none))
 
-    -- The timer that the slot at the top names is the earliest.
-    pub first_is : (f : First T) → get_or first 0 None ≡ Some f → IsFirst cmp q f
-    first_is f named = by_held (get_or q.slots f.slot None) refl (stands q.slots first s (length first) 0 f (omega arith) named)
+    -- The timer that stands there is the earliest.
+    pub first_is : (d : Due T) → due 0 ≡ Some d → IsFirst cmp q d
+    first_is d named = by_held (get_or q.slots d.slot None) refl (i.named 0 d named).0
       where
-        by_held : (h : Option (Armed T V)) → get_or q.slots f.slot None ≡ h → own_first f.slot h ≡ Some f → IsFirst cmp q f
+        by_held : (h : Option (Armed T V)) → get_or q.slots d.slot None ≡ h → own_due d.slot h ≡ Some d → IsFirst cmp q d
         by_held None held e = absurd cc
         by_held (Some a) held e =
-            let whole : record { at = a.at; turn = a.turn; slot = f.slot } ≡ f = cc in
+            let whole : record { at = a.at; turn = a.turn; slot = d.slot } ≡ d = cc in
             let first_of : (k : ℕ) (b : Armed T V) → get_or q.slots k None ≡ Some b → precedes cmp a b ≡ true =
-            λ k b there. subst (λ x. IsAtMost cmp x (own_first k (Some b))) (named ∙ sym e)
-            (subst (λ h. IsAtMost cmp (get_or first 0 None) (own_first k h)) there (top_first q.slots first s o k)) in
+            λ k b there. subst (λ x. IsAtMost cmp x (own_due k (Some b))) (named ∙ sym e) (top_first k b there) in
             record {
               armed = a;
               held = held;
               at = ap (λ x. x.at) whole;
-              earliest = record { stands = at_slot q f.slot a held; first = λ other b there. first_of other.slot b (in_slot q other b there).0 };
+              earliest = record { stands = at_slot q d.slot a held; first = λ other b there. first_of other.slot b (in_slot q other b there).0 };
             }
 
-    -- The same of a reference to what the slot at the top names.
-    pub top_none : (r : Option (Bor (First T))) → option_copied r ≡ get_or first 0 None → IfNone r (HasNone q × (timer_count q ≡ 0))
+    -- The same of a reference to what stands there.
+    pub top_none : (r : Option (Bor (Due T))) → option_copied r ≡ due 0 → IfNone r (HasNone q × (timer_count q ≡ 0))
     top_none None e = none_stands (sym e)
-    top_none (Some f) e = tt
+    top_none (Some d) e = tt
 
-    pub top_some : (r : Option (Bor (First T))) → option_copied r ≡ get_or first 0 None → IfSome r (λ f. IsFirst cmp q f.now)
+    pub top_some : (r : Option (Bor (Due T))) → option_copied r ≡ due 0 → IfSome r (λ d. IsFirst cmp q d.now)
     top_some None e = tt
-    top_some (Some f) e = first_is f.now (sym e)
+    top_some (Some d) e = first_is d.now (sym e)

@@ -1,3 +1,3 @@
+pub mod Heap
 pub mod InOrder
 pub mod Timers
-pub mod Tournament

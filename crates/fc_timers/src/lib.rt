@@ -1,11 +1,11 @@
 //! A queue of timers, each with its time and a value, which come out in the order of their times.
 #![tactic(auto)]
 
+mod heap;
 mod order;
 pub mod queue;
 mod slot;
 pub mod timer;
-mod tournament;
 
 pub use fc_base::TryReserveError;
 pub use queue::TimerQueue;

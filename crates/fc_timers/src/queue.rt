@@ -4,13 +4,13 @@ ghost use Rattle.std.specs.Option.{option_map};
 ghost use Rattle.fc_base.specs.declared.try_reserve_error.TryReserveError.{TryReserveError as Error};
 ghost use Rattle.fc_base.specs.Growth.{append_error};
 ghost use Rattle.fc_timers.specs.Timers.{AreGivenOut, GivenTimer, HasNone, IsChanged, IsDrained, IsEarliest, IsPopped, NoneDue, armed, newly, renewed, timer_count};
-ghost use Rattle.fc_timers.specs.Tournament.{IsFirst};
+ghost use Rattle.fc_timers.specs.Heap.{IsFirst};
 ghost use Rattle.fc_timers.specs.declared.timer.Armed.{Armed as Held};
 ghost use Rattle.fc_timers.specs.declared.timer.Timer.{Timer as Key};
 
-use crate::slot::{First, Slot};
+use crate::heap::{put, retime, take};
+use crate::slot::{Due, Slot};
 use crate::timer::{Armed, Timer};
-use crate::tournament::{change, retime, vacate};
 use fc_base::{Handle, TryReserveError};
 use std::alloc::Global;
 use std::marker::Model;
@@ -30,7 +30,7 @@ pub struct TimerQueue<T: Ord, V, A: Handle = Global> {
 
 impl<T: Ord, V, A: Handle> Model for TimerQueue<T, V, A> {
     ghost use Rattle.fc_timers.specs.Timers.{Queue};
-    ghost use Rattle.fc_timers.specs.Tournament.{helds, IsSound};
+    ghost use Rattle.fc_timers.specs.Heap.{helds, IsSound};
     ghost use Rattle.std.specs.Prelude.{vec_capacity};
 
     ghost Value = { Queue T V };
@@ -138,13 +138,13 @@ impl<T: Ord, V, A: Handle> TimerQueue<T, V, A> {
         Some(&self.first()?.at)
     }
 
-    // The timer that comes out next, as the slot at the top names it.
-    fn first(&self) -> Option<&First<T>>
+    // The timer that comes out next, which stands at the first place of the heap.
+    fn first(&self) -> Option<&Due<T>>
         ensures none { IfNone result (HasNone self.now × (timer_count self.now ≡ 0)) }
         ensures earliest { IfSome result (λ first. IsFirst T.cmp self.now first.now) }
     {
         match self.slots.get(0) {
-            Some(slot) => slot.first.as_ref(),
+            Some(slot) => slot.due.as_ref(),
             None => None,
         }
     }
@@ -209,8 +209,8 @@ impl<T: Ord + Copy + Drop, V: Drop, A: Handle> TimerQueue<T, V, A> {
         self.slots.reserve(1)?;
         self.slots.push_reserved(Slot {
             held: None,
-            first: None,
-            next_vacant: self.vacant,
+            due: None,
+            link: self.vacant,
         });
         self.vacant = slot;
         Ok(())
@@ -229,14 +229,14 @@ impl<T: Ord + Copy + Drop, V: Drop, A: Handle> TimerQueue<T, V, A> {
     {
         let slot = self.vacant;
         let number = self.next_number;
-        self.vacant = self.slots[slot].next_vacant;
+        self.vacant = self.slots[slot].link;
         let armed = Armed {
             at,
             turn: number,
             number,
             value,
         };
-        change(self.slots.as_mut_slice(), slot, Some(armed));
+        put(self.slots.as_mut_slice(), slot, armed, self.len);
         self.len += 1;
         self.next_number += 1;
         Timer { slot, number }
@@ -265,9 +265,9 @@ impl<T: Ord + Copy + Drop, V: Drop, A: Handle> TimerQueue<T, V, A> {
         ensures number { self.new.next_number ≡ self.old.next_number }
         ensures room { self.new.room ≡ self.old.room }
     {
-        let armed = vacate(self.slots.as_mut_slice(), slot, self.vacant)?;
-        self.vacant = slot;
         self.len -= 1;
+        let armed = take(self.slots.as_mut_slice(), slot, self.len, self.vacant)?;
+        self.vacant = slot;
         Some((armed.at, armed.value))
     }
 

@@ -1,20 +1,17 @@
-use Rattle.std.proofs.Common.{◌≡◌, None, Some, sym, ap, ◌∙◌, option_map, rules}
-use Rattle.fc_hash.specs.Pairs.{value_at}
-use Rattle.fc_cache.specs.Links.{entries_of}
-use Rattle.fc_cache.proofs.Recent.{held_at}
+use Rattle.std.proofs.Common.{◌≡◌, reverse, refl, ap, ◌∙◌}
+use Rattle.std.specs.Map.{lookup}
+use Rattle.fc_cache.specs.Entries.{used_last}
+use Rattle.fc_cache.specs.Recent.{entries_of}
+use Rattle.fc_cache.proofs.Reversed.{reversed, same_value}
+use Rattle.fc_cache.proofs.Recent.{used_promoted}
 use Rattle.fc_cache.proofs.recency.Recency.get.Goals as goal
-
-pub returns-in_err-link : goal.returns-in_err-link
-returns-in_err-link g c =
-    let l = c.self.inside.links in
-    let eq = g.K.PartialEq.eq in
-    let none : value_at eq c.args.key.now l.map.pairs ≡ None = search rules in
-    rw (c.from_residual.ensures, ← c.self.view_is) (ap (option_map (λ x. x.held)) (sym none)
-    ∙ held_at g.met.K.Eq.laws l (entries_of eq l) c.self.invariant c.args.key.now)
 
 pub returns : goal.returns
 returns g c =
-    let l = c.self.inside.links in
-    let eq = g.K.PartialEq.eq in
-    let found : value_at eq c.args.key.now l.map.pairs ≡ Some c.in_ok-link.link.now = search rules in
-    rw (← c.self.view_is) (ap (option_map (λ x. x.held)) (sym found) ∙ held_at g.met.K.Eq.laws l (entries_of eq l) c.self.invariant c.args.key.now)
+    let test = g.Q.Equivalent.equivalent c.args.key in
+    let es = c.in_ok-ring.ring.now.entries in
+    let r = reversed test (g.met.Q.Equivalent.respects_eq c.args.key) es c.len-known.ensures.valid.0 in
+    let were : reverse es ≡ c.args.self.now.entries = ap entries_of c.in_ok-ring.ensures.value ∙ ap (λ v. v.entries) c.self.view_is in
+    let used : reverse c.get.follows.lender-at-none.entries ≡ used_last test c.args.self.now.entries =
+    ap (λ l. reverse l.entries) c.get.follows.holds-at-none ∙ used_promoted test es r ∙ ap (used_last test) were in
+    ((refl, λ _. tt, λ i. record { entries = used i }), record { used = tt; value = c.get.ensures.value ∙ same_value test es r ∙ ap (lookup test) were })

@@ -1,10 +1,17 @@
-use Rattle.std.proofs.Common.{◌≡◌, ◌<◌, length, get_or, set, Some, None, refl, ap, ◌∙◌, arith}
+use Rattle.std.proofs.Common.{◌≡◌, ◌<◌, length, get_or, set, Some, None, IsSome, refl, sym, subst, ap, ◌∙◌, arith}
 use Rattle.std.proofs.lemmas.List.{length-map, with_items_is}
 use Rattle.fc_timers.specs.declared.timer.Armed.{Armed}
 use Rattle.fc_timers.specs.Timers.{renewed}
-use Rattle.fc_timers.specs.Tournament.{helds, nexts}
+use Rattle.fc_timers.specs.Heap.{AreVacantKept, IsHeap, helds, links}
 use Rattle.fc_timers.proofs.Kept.{sound_renewed, within_slot, there}
 use Rattle.fc_timers.proofs.queue.TimerQueue.renew.Goals as goal
+
+pub retime-requires-clause-held : goal.retime-requires-clause-held
+retime-requires-clause-held g c =
+    subst (λ l. IsSome (get_or (helds l) c.args.slot None)) (sym c.as_mut_slice.ensures.value) (rw (← c.self.view_is) at c.requires.held)
+
+pub retime-requires-clause-heap : goal.retime-requires-clause-heap
+retime-requires-clause-heap g c = subst (IsHeap g.T.Ord.cmp) (sym c.as_mut_slice.ensures.value) c.self.invariant.heap
 
 pub invariant_of-self : goal.invariant_of-self
 invariant_of-self g c =
@@ -17,7 +24,8 @@ invariant_of-self g c =
     let written : helds c.retime.new.slots ≡ set (helds slots) c.args.slot (Some new) =
     c.retime.ensures.held ∙ ap (λ l. set (helds l) c.args.slot (renewed c.args.at next (get_or (helds l) c.args.slot None))) c.as_mut_slice.ensures.value
     ∙ ap (λ h. set (helds slots) c.args.slot (renewed c.args.at next h)) held in
-    let named : nexts c.retime.new.slots ≡ nexts slots = c.retime.ensures.next ∙ ap nexts c.as_mut_slice.ensures.value in
+    let led : AreVacantKept c.retime.new.slots (links slots) =
+    λ k none. c.retime.ensures.vacant k none ∙ ap (λ l. get_or (links l) k 0) c.as_mut_slice.ensures.value in
     rw (with_items_is c.self.inside.slots c.retime.new.slots (omega arith))
     (sound_renewed slots c.retime.new.slots c.args.slot c.self.inside.len next c.self.inside.vacant within
-    c.self.invariant c.retime.ensures.settled old.0 new held written named refl refl)
+    c.self.invariant c.retime.ensures.heap old.0 new held written led refl refl)

@@ -1,28 +1,41 @@
-use Rattle.std.proofs.Common.{◌≡◌, ◌<◌, ◌≤◌, ◌-◌, length, get_or, set, Some, None, sym, ap, ◌∙◌, arith}
+use Rattle.std.proofs.Common.{◌≡◌, ◌<◌, length, get_or, set, count_by, is_some, Some, None, IsSome, sym, subst, ap, ◌∙◌, arith}
 use Rattle.std.proofs.lemmas.List.{length-map, with_items_is}
-use Rattle.fc_timers.specs.Tournament.{helds, nexts, IsSound}
-use Rattle.fc_timers.proofs.Kept.{sound_emptied, within_slot}
-use Rattle.fc_timers.proofs.queue.TimerQueue.take.Given as given
+use Rattle.fc_timers.specs.Heap.{AreVacantKept, IsHeap, helds, links}
+use Rattle.fc_timers.proofs.Kept.{some_counted, sound_emptied, within_slot}
 use Rattle.fc_timers.proofs.queue.TimerQueue.take.Goals as goal
 
-kept : (g : given.Over) (c : goal.After-self-2-1 g)
-    → (1 ≤ c.self.inside.len) × IsSound g.T.Ord.cmp c.vacate.new.slots (c.self.inside.len - 1) c.self.inside.next_number c.args.slot
-kept g c =
-    let slots = c.self.inside.slots.items in
-    let held : get_or (helds slots) c.args.slot None ≡ Some c.in_ok-armed.armed =
-    sym (c.vacate.ensures.was ∙ ap (λ l. get_or (helds l) c.args.slot None) c.as_mut_slice.ensures.value) ∙ c.in_ok-armed.was in
-    let within : c.args.slot < length slots = omega (arith, length-map slots (λ s. s.held), within_slot (helds slots) c.args.slot _ held) in
-    let written : helds c.vacate.new.slots ≡ set (helds slots) c.args.slot None =
-    c.vacate.ensures.held ∙ ap (λ l. set (helds l) c.args.slot None) c.as_mut_slice.ensures.value in
-    let named : nexts c.vacate.new.slots ≡ set (nexts slots) c.args.slot c.self.inside.vacant =
-    c.vacate.ensures.next ∙ ap (λ l. set (nexts l) c.args.slot c.self.inside.vacant) c.as_mut_slice.ensures.value in
-    sound_emptied slots c.vacate.new.slots c.args.slot c.self.inside.len c.self.inside.next_number c.self.inside.vacant within
-    c.self.invariant c.vacate.ensures.settled c.in_ok-armed.armed held written
-    named
-
 pub overflow_sub-self : goal.overflow_sub-self
-overflow_sub-self g c = (kept g c).0
+overflow_sub-self g c =
+    omega (arith, c.self.invariant.counted, some_counted (helds c.self.inside.slots.items) c.args.slot (rw (← c.self.view_is) at c.requires))
+
+pub take-requires-clause-held : goal.take-requires-clause-held
+take-requires-clause-held g c =
+    subst (λ l. IsSome (get_or (helds l) c.args.slot None)) (sym c.as_mut_slice.ensures.value) (rw (← c.self.view_is) at c.requires)
+
+pub take-requires-clause-others : goal.take-requires-clause-others
+take-requires-clause-others g c =
+    omega (
+      arith,
+      c.self.invariant.counted,
+      some_counted (helds c.self.inside.slots.items) c.args.slot (rw (← c.self.view_is) at c.requires),
+      ap (λ l. count_by is_some (helds l)) c.as_mut_slice.ensures.value,
+    )
+
+pub take-requires-clause-heap : goal.take-requires-clause-heap
+take-requires-clause-heap g c = subst (IsHeap g.T.Ord.cmp) (sym c.as_mut_slice.ensures.value) c.self.invariant.heap
 
 pub invariant_of-self-2 : goal.invariant_of-self-2
 invariant_of-self-2 g c =
-    rw (with_items_is c.self.inside.slots c.vacate.new.slots (omega arith)) (kept g c.before).1
+    let slots = c.self.inside.slots.items in
+    let slot = c.args.slot in
+    let now = c.take.new.slots in
+    let vacant = c.self.inside.vacant in
+    let held : get_or (helds slots) slot None ≡ Some c.in_ok-armed.armed =
+    sym (c.take.ensures.was ∙ ap (λ l. get_or (helds l) slot None) c.as_mut_slice.ensures.value) ∙ c.in_ok-armed.was in
+    let within : slot < length slots = omega (arith, length-map slots (λ s. s.held), within_slot (helds slots) slot _ held) in
+    let written : helds now ≡ set (helds slots) slot None = c.take.ensures.held ∙ ap (λ l. set (helds l) slot None) c.as_mut_slice.ensures.value in
+    let led : AreVacantKept now (set (links slots) slot vacant) =
+    λ k none. c.take.ensures.vacant k none ∙ ap (λ l. get_or (set (links l) slot vacant) k 0) c.as_mut_slice.ensures.value in
+    let emptied = sound_emptied slots now slot c.self.inside.len c.self.inside.next_number vacant within c.self.invariant c.take.ensures.heap
+    c.in_ok-armed.armed held written led in
+    rw (with_items_is c.self.inside.slots now (omega arith)) emptied.1
