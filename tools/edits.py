@@ -34,7 +34,6 @@ MOST_WAITING = 25
 # Each longer function of the library has a wrong body, but for these.
 SHORT = 10
 EXCUSED = {
-    "fc_cache/src/recency.rt: new": "there is no key yet that a wrong body could put in",
     "fc_map_iter/src/into_iter/debug.rt: list_pairs": "what is printed for debugging has no contract",
     "fc_tree_build/src/growing.rt: new": "there is no pair that could be put in",
     "fc_tree_slots/src/rest.rt: into_slots": "there is no item that could be left in",

@@ -142,14 +142,14 @@ fn command(turn: u64) -> Command<u64, u64> {
 }
 
 // What a refusal of the command answers; nothing, where it takes no memory of maps and sets.
-fn refusal_of(command: Command<u64, u64>) -> Option<Reply<u64, u64>> {
+fn refusal_of(command: &Command<u64, u64>) -> Option<Reply<u64, u64>> {
     let refused = TryReserveError::AllocError;
     match command {
-        Command::Insert(_, k, v) => Some(Reply::GivenBack(k, v, refused)),
-        Command::Entry(_, k, _, v) => Some(Reply::GivenBack(k, v, refused)),
-        Command::InsertBoth(k, v, l, w) => Some(Reply::BothGivenBack(k, v, l, w, refused)),
-        Command::AddItem(_, k) => Some(Reply::ItemGivenBack(k, refused)),
-        Command::ReplaceItem(_, k) => Some(Reply::ItemGivenBack(k, refused)),
+        Command::Insert(_, k, v) => Some(Reply::GivenBack(*k, *v, refused)),
+        Command::Entry(_, k, _, v) => Some(Reply::GivenBack(*k, *v, refused)),
+        Command::InsertBoth(k, v, l, w) => Some(Reply::BothGivenBack(*k, *v, *l, *w, refused)),
+        Command::AddItem(_, k) => Some(Reply::ItemGivenBack(*k, refused)),
+        Command::ReplaceItem(_, k) => Some(Reply::ItemGivenBack(*k, refused)),
         Command::Append(_) => Some(Reply::Refused(refused)),
         Command::SplitOff(_, _) => Some(Reply::Refused(refused)),
         Command::TryClone(_) => Some(Reply::Refused(refused)),
@@ -173,7 +173,8 @@ fn is_told(alloc: Global, reply: &Reply<u64, u64>, told: &[u8]) -> Result<bool, 
 
 // Whether the text is that of a refusal of the turn's command.
 fn tells_refusal(alloc: Global, turn: u64, told: &[u8]) -> Result<bool, AllocError> {
-    match refusal_of(command(turn)) {
+    let refusal = refusal_of(&command(turn));
+    match refusal {
         Some(refusal) => is_told(alloc, &refusal, told),
         None => Ok(false),
     }

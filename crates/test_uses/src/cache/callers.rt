@@ -8,7 +8,7 @@ use fc_cache::{Cache, PutError};
 /// The value at a key, which is then the most lately used.
 pub fn look_up(cache: &mut Cache<u64, u64>, key: u64) -> Option<u64>
     ensures value { result ≡ option_map (λ h. h.value) (lookup (⟦<u64 as PartialEq>⟧.eq key) cache.old.entries) }
-    ensures used { cache.new ≡ record { entries = used_last ⟦<u64 as PartialEq>⟧.eq key cache.old.entries; budget = cache.old.budget } }
+    ensures used { cache.new ≡ record { entries = used_last (⟦<u64 as PartialEq>⟧.eq key) cache.old.entries; budget = cache.old.budget } }
 {
     cache.get(&key).copied()
 }

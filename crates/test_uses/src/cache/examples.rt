@@ -37,7 +37,36 @@ fn costs(rt: HostRuntime) -> Result<(), Fail> {
 }
 
 #[test]
+fn texts(rt: HostRuntime) -> Result<(), Fail> {
+    let alloc = rt.alloc();
+    // example: Cache::contains_key, Cache::cost_of, Cache::peek_oldest, Cache::set_budget, Cache::clear
+    let mut cache = Cache::new(alloc, 10);
+    cache.try_put(String::from_str(alloc, "a")?, 1u64, 6)?;
+    cache.try_put(String::from_str(alloc, "b")?, 2, 4)?;
+    assert_eq!(rt; cache.cost_of("b"), Some(4));
+    cache.set_budget(5); // drops the entry of "a"
+    assert!(rt; !cache.contains_key("a") && cache.peek_oldest().is_some());
+    cache.clear();
+    // end
+    Ok(())
+}
+
+#[test]
+fn handed_over(rt: HostRuntime) -> Result<(), Fail> {
+    let alloc = rt.alloc();
+    // example: Cache::try_put_with
+    let mut cache = Cache::new(alloc, 2);
+    cache.try_put('a', 1u64, 1)?;
+    cache.try_put('b', 2, 1)?;
+    let mut evicted = None;
+    cache.try_put_with('c', 3, 1, |key, value| evicted = Some((key, value)))?;
+    assert_eq!(rt; evicted, Some(('a', 1)));
+    // end
+    Ok(())
+}
+
+#[test]
 fn bytes(rt: HostRuntime) {
     assert_eq!(rt; size_of::<Cache<u64, u64>>(), 192);
-    assert_eq!(rt; size_of::<Cache<u64, u64, &Budget<Global>>>(), 240);
+    assert_eq!(rt; size_of::<Cache<u64, u64, &Budget<Global>>>(), 248);
 }

@@ -40,6 +40,32 @@ fn what_is_evicted_replaced_or_taken_out_is_given_up(rt: HostRuntime) {
     assert!(rt; seen == [3, 3, 3, 1, 3] && cache.len() == 1);
 }
 
+// What is handed over is the closure's to drop; a smaller budget and a clear drop the others.
+#[test]
+fn what_is_handed_over_or_cleared_is_given_up(rt: HostRuntime) {
+    let alloc = rt.alloc();
+    let mut cache: Boxes = Cache::new(alloc, 3);
+    for key in 0..3u64 {
+        if put(&mut cache, alloc, key, 1).is_err() {
+            return;
+        }
+    }
+    let Ok(value) = Owned::try_new(alloc, 1) else {
+        return;
+    };
+    let mut handed = 0u64;
+    match cache.try_put_with(1, value, 2, |_key, _value| handed = handed.wrapping_add(1)) {
+        Ok(()) => assert!(rt; handed == 2 && cache.len() == 2 && cache.used() == 3),
+        Err(_) => assert!(rt; handed == 0),
+    }
+    cache.set_budget(2);
+    assert!(rt;
+        cache.len() <= 2 && cache.used() <= 2 && cache.peek_oldest().is_some() != cache.is_empty()
+    );
+    cache.clear();
+    assert!(rt; cache.is_empty() && cache.used() == 0 && !cache.contains_key(&1));
+}
+
 // Numbers, each put in with the cost 1 beside all before it.
 #[test]
 fn a_cache_holds_thousands_of_entries(rt: HostRuntime) {
