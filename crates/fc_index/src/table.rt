@@ -189,4 +189,25 @@ impl<I: Ord + Copy, A: Ord + Copy, B: Ord + Copy, V: Drop, H: Handle> Table<I, A
         self.seconds.remove(&(row.second, id));
         Some(row)
     }
+
+    /// Takes all rows out, and drops them. It takes no memory.
+    pub fn clear(&mut self)
+        ensures { self.new ≡ [] }
+    {
+        self.rows.clear();
+        self.firsts.clear();
+        self.seconds.clear();
+    }
+}
+
+impl<'a, I: Ord, A: Ord, B: Ord, V, H: Handle> IntoIterator for &'a Table<I, A, B, V, H> {
+    type Item = (&'a I, &'a Keyed<A, B, V>);
+
+    type IntoIter = Iter<'a, I, Keyed<A, B, V>, H>;
+
+    ghost into_iter_gives = { λ table walk. walk ≡ table.now };
+
+    fn into_iter(self) -> Iter<'a, I, Keyed<A, B, V>, H> {
+        self.iter()
+    }
 }

@@ -1,5 +1,6 @@
 pub mod Laws
 pub mod Joined
+mod Taken
 pub mod Lengths
 pub mod Lists
 pub mod Order

@@ -1,4 +1,5 @@
 pub mod Stretches
+pub mod Taken
 pub mod Steps
 pub mod Joined
 pub mod Refusals

@@ -1,11 +1,12 @@
 //! The map: stretches of points, by their starts.
-ghost use Rattle.std.specs.Prelude.{◌≡◌, ◌↔◌, ◌-◌, ◌<◌, [], length, slice_get, true, false, IsTrue, IsOk, IsErr, IfErr, OnOk, OnErr, None, Some};
+ghost use Rattle.std.specs.Prelude.{◌≡◌, ◌↔◌, ◌-◌, ◌<◌, [], ◌∷◌, length, slice_get, is_some, true, false, IsTrue, IsOk, IsErr, IfErr, IfNone, IfSome, OnOk, OnErr, None, Some};
 ghost use Rattle.std.specs.Ordering.{is_lt, is_le};
 ghost use Rattle.std.specs.declared.cmp.Ordering.TheVariants.{Less};
 ghost use Rattle.fc_map.specs.Entries.{now_value};
 ghost use Rattle.fc_intervals.specs.Joined.{IsJoined, NoneJoint};
 ghost use Rattle.fc_intervals.specs.Refusals.{MayRefusePut, MayRefuseRest, parted_length, put_length};
 ghost use Rattle.fc_intervals.specs.Steps.{IsCut};
+ghost use Rattle.fc_intervals.specs.Taken.{IsTaken, stretch_of};
 ghost use Rattle.fc_intervals.specs.Stretches.{AreApart, AreGaps, IsKept, IsLookUp, IsWritten, now_stretch, overlapping, stretch_at, value_at_point};
 
 use crate::gaps::Gaps;
@@ -92,6 +93,13 @@ impl<K: Ord + Copy, V, A: Handle> IntervalMap<K, V, A> {
         }
     }
 
+    /// Whether a stretch covers a point.
+    pub fn contains(&self, at: K) -> bool
+        ensures { result ≡ is_some (value_at_point K.cmp self.now at) }
+    {
+        self.get(at).is_some()
+    }
+
     /// The stretch that covers a point, and its value. `None` where none does.
     pub fn get_key_value(&self, at: K) -> Option<(Range<K>, &V)>
         ensures stretch { now_stretch result ≡ stretch_at K.cmp self.now at }
@@ -137,6 +145,13 @@ impl<K: Ord + Copy + Drop, V, A: Handle> IntervalMap<K, V, A> {
         self.map.range(from..range.end)
     }
 
+    /// Whether a stretch has a point in common with a range. An empty range has none.
+    pub fn overlaps(&self, range: Range<K>) -> bool
+        ensures { IsTrue result ↔ ¬ (overlapping K.cmp self.now range.start range.end ≡ []) }
+    {
+        self.overlapping(range).next().is_some()
+    }
+
     /// A walk over the parts of a range that no stretch covers, in ascending order, each as long as can be. It takes no memory.
     pub fn gaps(&self, range: Range<K>) -> Gaps<'_, K, V, A>
         ensures gaps { AreGaps K.cmp self.now range.start range.end result }
@@ -146,6 +161,37 @@ impl<K: Ord + Copy + Drop, V, A: Handle> IntervalMap<K, V, A> {
             from: range.start,
             end: range.end,
         }
+    }
+}
+
+impl<K: Ord + Copy + Drop, V: Drop, A: Handle> IntervalMap<K, V, A> {
+    /// Takes the stretch that covers a point out whole, and answers it with its value. `None` where none does, and nothing changes. It takes no memory,
+    /// and so is never refused, as `cut` of the stretch's range may seem to be.
+    pub fn remove_at(&mut self, at: K) -> Option<(Range<K>, V)>
+        ensures taken { IfSome result (λ r. IsTaken K.cmp at (stretch_of r) self.old self.new) }
+        ensures none { IfNone result (stretch_at K.cmp self.old at ≡ None) }
+        ensures unchanged { IfNone result (self.new ≡ self.old) }
+    {
+        let (start, _stretch) = steps::covering(&self.map, &at, &mut Count::new())?;
+        let start = *start;
+        let (start, stretch) = self.map.remove_entry(&start)?;
+        Some((start..stretch.end, stretch.value))
+    }
+
+    /// Takes the first stretch out, and answers it with its value. `None` where there is none. It takes no memory.
+    pub fn pop_first(&mut self) -> Option<(Range<K>, V)>
+        ensures taken { IfSome result (λ r. self.old ≡ stretch_of r ∷ self.new) }
+        ensures none { IfNone result ((self.old ≡ []) × (self.new ≡ self.old)) }
+    {
+        let (start, stretch) = self.map.pop_first()?;
+        Some((start..stretch.end, stretch.value))
+    }
+
+    /// Takes all stretches out, and drops them. It takes no memory.
+    pub fn clear(&mut self)
+        ensures { self.new ≡ [] }
+    {
+        self.map.clear();
     }
 }
 
@@ -256,5 +302,17 @@ impl<K: Ord + Copy + Drop, V: TryClone, A: Handle> IntervalMap<K, V, A> {
         ensures full { usize.MAX < parted_length K.cmp self.old end → IsErr result }
     {
         steps::clear(&mut self.map, start, end)
+    }
+}
+
+impl<'a, K: Ord, V, A: Handle> IntoIterator for &'a IntervalMap<K, V, A> {
+    type Item = (&'a K, &'a Stretch<K, V>);
+
+    type IntoIter = Iter<'a, K, Stretch<K, V>, A>;
+
+    ghost into_iter_gives = { λ map walk. walk ≡ map.now };
+
+    fn into_iter(self) -> Iter<'a, K, Stretch<K, V>, A> {
+        self.iter()
     }
 }

@@ -1,6 +1,7 @@
 //! The queue.
-ghost use Rattle.std.specs.Prelude.{◌≡◌, ℕ, ◌==◌, ◌∷◌, ◌++◌, [], if◌then◌else◌, ◌+◌, ◌<◌, ◌≤◌, ◌⊎◌, ◌↔◌, IsTrue, IfSome, IfNone, OnSome, IfOk, IfErr, OnOk, OnErr, IsErr, IsOk, IsSome, Some, None, count_by, is_some, length, map, slice_index_or, slice_set, option_copied};
+ghost use Rattle.std.specs.Prelude.{◌≡◌, ℕ, ◌==◌, ◌∷◌, ◌++◌, [], if◌then◌else◌, ◌+◌, ◌<◌, ◌≤◌, ◌⊎◌, ◌↔◌, IsTrue, IfSome, IfNone, OnSome, IfOk, IfErr, OnOk, OnErr, IsErr, IsOk, IsSome, Some, None, count_by, is_some, length, map, slice_index_or, slice_set, option_copied, true};
 ghost use Rattle.std.specs.Option.{option_map};
+ghost use Rattle.std.specs.Ordering.{is_le};
 ghost use Rattle.fc_base.specs.declared.try_reserve_error.TryReserveError.{TryReserveError as Error};
 ghost use Rattle.fc_base.specs.Growth.{append_error};
 ghost use Rattle.fc_timers.specs.Timers.{AreGivenOut, GivenTimer, HasNone, IsChanged, IsDrained, IsEarliest, IsPopped, NoneDue, armed, newly, renewed, timer_count};
@@ -120,6 +121,13 @@ impl<T: Ord, V, A: Handle> TimerQueue<T, V, A> {
         }
     }
 
+    /// Whether the timer is in the queue: it did not come out, and was not cancelled.
+    pub fn contains(&self, timer: Timer) -> bool
+        ensures { result ≡ is_some (armed self.now timer) }
+    {
+        self.get(timer).is_some()
+    }
+
     // The timer that stands in a slot.
     fn standing(&self, slot: usize) -> Option<&Armed<T, V>>
         ensures { option_copied result ≡ slice_index_or self.now.slots slot None }
@@ -138,6 +146,24 @@ impl<T: Ord, V, A: Handle> TimerQueue<T, V, A> {
         Some(&self.first()?.at)
     }
 
+    /// The timer that comes out next, with its time and its value, where it is due at this time. It stays in the queue. `None` where no timer is due.
+    pub fn first_due(&self, now: &T) -> Option<(Timer, &T, &V)>
+        ensures first { IfSome result (λ f. (a : Held T V) × (f.1.now ≡ a.at) × (f.2.now ≡ a.value) × IsEarliest T.cmp self.now f.0 a) }
+        ensures due { IfSome result (λ f. is_le (T.cmp f.1.now now.now) ≡ true) }
+        ensures none { IfNone result (NoneDue T.cmp self.now now.now) }
+    {
+        let first = self.first()?;
+        if first.at.cmp(now).is_gt() {
+            return None;
+        }
+        let armed = self.standing(first.slot)?;
+        let timer = Timer {
+            slot: first.slot,
+            number: armed.number,
+        };
+        Some((timer, &armed.at, &armed.value))
+    }
+
     // The timer that comes out next, which stands at the first place of the heap.
     fn first(&self) -> Option<&Due<T>>
         ensures none { IfNone result (HasNone self.now × (timer_count self.now ≡ 0)) }
@@ -151,6 +177,24 @@ impl<T: Ord, V, A: Handle> TimerQueue<T, V, A> {
 }
 
 impl<T: Ord + Copy + Drop, V: Drop, A: Handle> TimerQueue<T, V, A> {
+    /// A queue of no timer with room for so many: as many insertions then take no memory. Later requests go to `alloc` too.
+    ///
+    /// # Errors
+    /// `AllocError`, where the request was refused.
+    pub fn try_with_capacity(
+        alloc: A,
+        capacity: usize,
+    ) -> Result<TimerQueue<T, V, A>, TryReserveError>
+        ensures none { IfOk result (λ q. HasNone q × (timer_count q ≡ 0)) }
+        ensures number { IfOk result (λ q. q.next_number ≡ 0) }
+        ensures room { IfOk result (λ q. capacity ≤ q.room) }
+        ensures error { IfErr result (λ e. e ≡ Error.AllocError) }
+    {
+        let mut queue = TimerQueue::new(alloc);
+        queue.try_reserve(capacity)?;
+        Ok(queue)
+    }
+
     /// Puts a timer in, after those of its time, and answers what it is found by. It takes memory only where the queue holds as many timers as
     /// it ever held.
     ///
@@ -269,6 +313,18 @@ impl<T: Ord + Copy + Drop, V: Drop, A: Handle> TimerQueue<T, V, A> {
         let armed = take(self.slots.as_mut_slice(), slot, self.len, self.vacant)?;
         self.vacant = slot;
         Some((armed.at, armed.value))
+    }
+
+    /// Takes out all timers, and drops them. The room stays, and none of them is found again. It takes no memory.
+    pub fn clear(&mut self)
+        ensures none { HasNone self.new }
+        ensures count { timer_count self.new ≡ 0 }
+        ensures number { self.new.next_number ≡ self.old.next_number }
+        ensures room { self.new.room ≡ self.old.room }
+    {
+        self.slots.clear();
+        self.len = 0;
+        self.vacant = usize::MAX;
     }
 
     /// Gives a timer another time, after those of that time, as if it were inserted anew, and answers the time that it had. It takes no memory.

@@ -50,6 +50,32 @@ fn all_that_are_due(rt: HostRuntime) -> Result<(), Fail> {
 }
 
 #[test]
+fn the_first_that_is_due(rt: HostRuntime) -> Result<(), Fail> {
+    let alloc = rt.alloc();
+    // example: TimerQueue::first_due, TimerQueue::contains
+    let mut queue = TimerQueue::new(alloc);
+    let timer = queue.try_insert(10u64, 'a')?;
+    assert!(rt; queue.first_due(&9).is_none());
+    assert_eq!(rt; queue.first_due(&10), Some((timer, &10, &'a')));
+    assert!(rt; queue.contains(timer)); // it stays
+    // end
+    Ok(())
+}
+
+#[test]
+fn no_timer_and_its_room(rt: HostRuntime) -> Result<(), Fail> {
+    let alloc = rt.alloc();
+    // example: TimerQueue::try_with_capacity, TimerQueue::clear
+    let mut queue = TimerQueue::try_with_capacity(alloc, 2)?;
+    let timer = queue.try_insert(10u64, 'a')?; // takes no memory
+    queue.clear();
+    assert!(rt; queue.is_empty() && !queue.contains(timer));
+    assert!(rt; queue.capacity() >= 2);
+    // end
+    Ok(())
+}
+
+#[test]
 fn bytes(rt: HostRuntime) {
     assert_eq!(rt; size_of::<TimerQueue<u64, u64>>(), 48);
     assert_eq!(rt; size_of::<TimerQueue<u64, u64, &Budget<Global>>>(), 56);

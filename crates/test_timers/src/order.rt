@@ -113,3 +113,52 @@ fn follows_a_row_of_timers(rt: HostRuntime) -> Result<(), Fail> {
     assert!(rt; follows(rt.alloc(), 2, 400)?);
     Ok(())
 }
+
+// The timer that is due first, with the sum of its time and its value.
+fn first(queue: &Numbers, now: u64) -> Option<(Timer, u64)> {
+    let (timer, at, value) = queue.first_due(&now)?;
+    Some((timer, at.wrapping_add(*value)))
+}
+
+#[test]
+fn the_first_that_is_due_stays(rt: HostRuntime) -> Result<(), Fail> {
+    let mut queue: Numbers = TimerQueue::new(rt.alloc());
+    assert!(rt; first(&queue, u64::MAX) == None);
+    let late = insert(&mut queue, 20, 1)?;
+    let soon = insert(&mut queue, 10, 2)?;
+    let same = insert(&mut queue, 10, 3)?;
+    assert!(rt; first(&queue, 9) == None && first(&queue, 10) == Some((soon, 12)));
+    assert!(rt; queue.cancel(soon) == Some((10, 2)) && first(&queue, 10) == Some((same, 13)));
+    // A timer that has another time is named as it was.
+    assert!(rt; queue.reschedule(late, 5) == Some(20) && first(&queue, 5) == Some((late, 6)));
+    assert!(rt; queue.len() == 2);
+    Ok(())
+}
+
+#[test]
+fn a_timer_is_contained_until_it_comes_out(rt: HostRuntime) -> Result<(), Fail> {
+    let mut queue: Numbers = TimerQueue::new(rt.alloc());
+    let old = insert(&mut queue, 10, 1)?;
+    assert!(rt; queue.contains(old) && queue.pop_due(&10) == Some((10, 1)));
+    assert!(rt; !queue.contains(old));
+    // Its slot is given out again, and what named it does not name the other.
+    let new = insert(&mut queue, 10, 2)?;
+    assert!(rt; queue.contains(new) && !queue.contains(old));
+    Ok(())
+}
+
+#[test]
+fn what_named_timers_before_all_went_names_none_after(rt: HostRuntime) -> Result<(), Fail> {
+    let mut queue: Numbers = TimerQueue::new(rt.alloc());
+    let one = insert(&mut queue, 10, 1)?;
+    let other = insert(&mut queue, 20, 2)?;
+    let room = queue.capacity();
+    queue.clear();
+    assert!(rt; queue.is_empty() && queue.capacity() == room && queue.next_deadline() == None);
+    let new = insert(&mut queue, 30, 3)?;
+    assert!(rt; !queue.contains(one) && !queue.contains(other) && queue.contains(new));
+    assert!(rt; queue.pop_due(&30) == Some((30, 3)) && queue.is_empty());
+    queue.clear();
+    assert!(rt; queue.is_empty());
+    Ok(())
+}

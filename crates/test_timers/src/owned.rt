@@ -40,3 +40,11 @@ fn what_is_cancelled_drained_or_left_is_given_up(rt: HostRuntime) {
     let left = seen(&mut queue, rt.alloc()).unwrap_or(5);
     assert!(rt; left == 5);
 }
+
+#[test]
+fn what_is_cleared_is_given_up(rt: HostRuntime) {
+    let mut queue: Boxes = TimerQueue::new(rt.alloc());
+    let _left = seen(&mut queue, rt.alloc()).unwrap_or(5);
+    queue.clear();
+    assert!(rt; queue.is_empty());
+}

@@ -93,3 +93,26 @@ fn room_is_made_for_so_many(rt: HostRuntime) -> Result<(), Fail> {
     assert!(rt; queue.len() == 3);
     Ok(())
 }
+
+// Whether a queue was made with room for three timers, which then take no memory, or else was refused for want of memory.
+fn is_made_or_refused(alloc: Global) -> bool {
+    match TimerQueue::<u64, u64>::try_with_capacity(alloc, 3) {
+        Ok(mut queue) => {
+            let is_empty = queue.is_empty() && queue.capacity() >= 3;
+            let puts = queue.try_insert(3, 30).is_ok() && queue.try_insert(2, 20).is_ok();
+            is_empty && puts && queue.try_insert(1, 10).is_ok() && queue.len() == 3
+        }
+        Err(error) => matches!(error, TryReserveError::AllocError),
+    }
+}
+
+#[test]
+fn a_queue_is_made_with_its_room_or_refused(rt: HostRuntime) {
+    assert!(rt; is_made_or_refused(rt.alloc()));
+}
+
+#[test]
+fn room_for_all_timers_that_a_number_can_count_is_refused(rt: HostRuntime) {
+    let made = TimerQueue::<u64, u64>::try_with_capacity(rt.alloc(), usize::MAX);
+    assert!(rt; matches!(made.err(), Some(TryReserveError::AllocError)));
+}

@@ -5,4 +5,5 @@ mod numbers;
 mod owned;
 mod refusals;
 mod row;
+mod taken;
 mod walks;

@@ -39,13 +39,14 @@ fn rows_by_their_keys(rt: HostRuntime) -> Result<(), Fail> {
 #[test]
 fn all_rows(rt: HostRuntime) -> Result<(), Fail> {
     let alloc = rt.alloc();
-    // example: Table::iter, Table::len, Table::is_empty
+    // example: Table::iter, Table::len, Table::is_empty, Table::clear
     let mut table = Table::new(alloc);
     table.try_insert(7u64, 'a', 30u64, ())?;
     table.try_insert(8, 'a', 20, ())?;
-    assert_eq!(rt; table.iter().len(), 2);
-    assert_eq!(rt; table.len(), 2);
+    assert_eq!(rt; (table.iter().len(), table.len()), (2, 2));
     assert!(rt; !table.is_empty());
+    table.clear();
+    assert!(rt; table.is_empty());
     // end
     Ok(())
 }

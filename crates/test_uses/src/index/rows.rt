@@ -104,3 +104,23 @@ fn shows_its_rows_by_their_ids(rt: HostRuntime) -> Result<(), Fail> {
     );
     Ok(())
 }
+
+// The sum of the ids and of the values.
+fn sum(table: &Parts) -> u64 {
+    let mut sum = 0u64;
+    for (id, row) in table {
+        sum = sum.wrapping_add(*id).wrapping_add(row.value);
+    }
+    sum
+}
+
+#[test]
+fn a_cleared_table_has_no_row_and_no_key(rt: HostRuntime) {
+    let mut table: Parts = Parts::new(rt.alloc());
+    let are_in = table.try_insert(4, 1, 2, 10).is_ok() && table.try_insert(5, 1, 3, 20).is_ok();
+    assert!(rt; are_in && sum(&table) == 39);
+    table.clear();
+    assert!(rt; is_like(&table, &[None; IDS]) && sum(&table) == 0);
+    let is_in = table.try_insert(4, 1, 2, 30).is_ok();
+    assert!(rt; is_in && sum(&table) == 34 && table.len() == 1);
+}

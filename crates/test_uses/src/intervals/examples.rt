@@ -35,6 +35,33 @@ fn cuts(rt: HostRuntime) -> Result<(), Fail> {
 }
 
 #[test]
+fn stretches_taken_out_whole(rt: HostRuntime) -> Result<(), Fail> {
+    let alloc = rt.alloc();
+    // example: IntervalMap::contains, IntervalMap::overlaps, IntervalMap::remove_at
+    let mut map = IntervalMap::new(alloc);
+    map.put(10u64..20, 'a')?;
+    assert!(rt; map.contains(10) && map.overlaps(0..11) && !map.overlaps(0..10));
+    assert_eq!(rt; map.remove_at(15), Some((10..20, 'a'))); // all of it
+    assert!(rt; !map.contains(10));
+    // end
+    Ok(())
+}
+
+#[test]
+fn no_stretch_left(rt: HostRuntime) -> Result<(), Fail> {
+    let alloc = rt.alloc();
+    // example: IntervalMap::pop_first, IntervalMap::clear
+    let mut map = IntervalMap::new(alloc);
+    map.put(10u64..20, 'a')?;
+    map.put(30..40, 'b')?;
+    assert_eq!(rt; map.pop_first(), Some((10..20, 'a')));
+    map.clear();
+    assert!(rt; map.is_empty());
+    // end
+    Ok(())
+}
+
+#[test]
 fn walks(rt: HostRuntime) -> Result<(), Fail> {
     let alloc = rt.alloc();
     // example: IntervalMap::iter, IntervalMap::overlapping, IntervalMap::gaps

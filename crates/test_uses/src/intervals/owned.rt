@@ -65,3 +65,23 @@ fn what_is_joined_is_given_up(rt: HostRuntime) {
     let is_right = joins(&mut map, rt.alloc()).unwrap_or(true);
     assert!(rt; is_right);
 }
+
+// Four stretches, of which one is taken out by a point, and one as the first; the others are cleared.
+fn are_let_go(map: &mut Boxes, alloc: Global) -> Result<bool, TryReserveError> {
+    for number in 0..4u64 {
+        let start = number.wrapping_mul(10);
+        put(map, alloc, start..start.wrapping_add(5), number)?;
+    }
+    let taken = map.remove_at(22).is_some() && map.remove_at(25).is_none();
+    let first = map.pop_first().is_some();
+    let left = map.len();
+    map.clear();
+    Ok(taken && first && left == 2 && map.is_empty())
+}
+
+#[test]
+fn what_is_taken_out_or_cleared_is_given_up(rt: HostRuntime) {
+    let mut map: Boxes = IntervalMap::new(rt.alloc());
+    let are_let_go = are_let_go(&mut map, rt.alloc()).unwrap_or(true);
+    assert!(rt; are_let_go);
+}

@@ -7,8 +7,8 @@ pub type Numbers = IntervalMap<u64, u64>;
 /// The values of the points from 0 on, and 0 at a point that has none.
 pub type Row = [u64; 24];
 
-// Writes the value at each point of a range of the row.
-fn write(row: &mut Row, start: u64, end: u64, value: u64) {
+/// Writes the value at each point of a range of the row.
+pub fn write(row: &mut Row, start: u64, end: u64, value: u64) {
     let mut point = 0u64;
     for held in row.iter_mut() {
         if start <= point && point < end {
