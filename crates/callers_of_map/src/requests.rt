@@ -1,13 +1,17 @@
 //! What callers prove of requests for memory: how many a call makes at the most, before it is made.
-ghost use Rattle.std.specs.Prelude.{◌≡◌, ℕ, ◌+◌, ◌<◌, ◌≤◌, length, IsSome, IsOk, OnOk};
+ghost use Rattle.std.specs.Prelude.{◌≡◌, ℕ, ◌+◌, ◌*◌, ◌<◌, ◌≤◌, length, IsSome, IsOk, OnOk};
 ghost use Rattle.std.specs.Ordering.{nat_cmp};
 ghost use Rattle.fc_base.specs.Parts.{at};
+ghost use Rattle.fc_budget.specs.Accounts.{cap_of, used_of};
 ghost use Rattle.fc_map.specs.Entries.{entries};
 ghost use Rattle.fc_laws.specs.Held.{bytes_in};
+ghost use Rattle.fc_laws.specs.Words.{blocks_in};
 
 use fc_base::{Asked, Count, TryReserveError};
+use fc_budget::Account;
 use fc_laws::held_within;
 use fc_map::map::BTreeMap;
+use std::alloc::AllocError;
 
 /// Puts the value at each number below 100: once nothing was refused, each of them is there.
 pub fn put_hundred(map: &mut BTreeMap<u64, u64>, value: u64) -> Result<(), TryReserveError>
@@ -51,6 +55,20 @@ pub fn insert_below_thousand(
     Ok(done?)
 }
 
+/// Puts a pair in and takes it out again: the map then has no more blocks than it had and asked for.
+pub fn put_and_take(
+    map: &mut BTreeMap<u64, u64>,
+    key: u64,
+    value: u64,
+    asked: &mut Asked,
+) -> Result<(), TryReserveError>
+    ensures held { OnOk result (asked.old.requests + blocks_in map.new ≤ asked.new.requests + blocks_in map.old) }
+{
+    map.try_insert_asked(key, value, &mut Count::new(), asked)?;
+    let _value = map.remove_counted(&key, &mut Count::new());
+    Ok(())
+}
+
 /// Copies a map of fewer than a thousand pairs. Whether it is refused or not, at most 161 requests are made: one for each of at most 143 nodes, and one more for
 /// each of at most 18 that have children.
 pub fn copy_below_thousand(
@@ -62,4 +80,16 @@ pub fn copy_below_thousand(
 {
     held_within(map);
     map.try_clone_asked(asked)
+}
+
+/// Counts so many blocks of so many bytes as out, which an account has left: none of them is refused.
+pub fn take_blocks(account: &mut Account, blocks: usize, bytes: usize) -> Result<(), AllocError>
+    requires left { used_of account.old + blocks * bytes ≤ cap_of account.old }
+    ensures granted { IsOk result }
+    ensures taken { used_of account.new ≡ used_of account.old + blocks * bytes }
+{
+    for _block in 0..blocks {
+        account.take(bytes)?;
+    }
+    Ok(())
 }

@@ -1,1 +1,1 @@
-mod Accounts
+pub mod Accounts

@@ -1,7 +1,9 @@
 use callers_of_map::requests::{
-    copy_below_thousand, insert_below_thousand, put_hundred, write_hundred,
+    copy_below_thousand, insert_below_thousand, put_and_take, put_hundred, take_blocks,
+    write_hundred,
 };
 use fc_base::{Asked, Count, TryReserveError};
+use fc_budget::Account;
 use fc_map::map::{BTreeMap, Entry, Reservation};
 use fc_set::set::BTreeSet;
 use std::alloc::Global;
@@ -203,6 +205,14 @@ fn a_pair_is_put_into_a_map_of_few(rt: HostRuntime) -> Result<(), Fail> {
     Ok(())
 }
 
+#[test]
+fn a_pair_is_put_in_and_taken_out_again(rt: HostRuntime) -> Result<(), Fail> {
+    let mut map = Numbers::new(rt.alloc());
+    put_and_take(&mut map, 7, 70, &mut Asked::new())?;
+    assert!(rt; map.is_empty());
+    Ok(())
+}
+
 // Whether a copy of sixteen pairs, made where there are fewer than a thousand, has them.
 fn is_copied_below_thousand(map: &mut Numbers) -> Result<bool, TryReserveError> {
     put_sixteen(map)?;
@@ -217,5 +227,13 @@ fn is_copied_below_thousand(map: &mut Numbers) -> Result<bool, TryReserveError> 
 fn a_map_of_few_pairs_is_copied(rt: HostRuntime) -> Result<(), Fail> {
     let mut map = Numbers::new(rt.alloc());
     assert!(rt; is_copied_below_thousand(&mut map)?);
+    Ok(())
+}
+
+#[test]
+fn an_account_that_has_room_for_all_blocks_refuses_none(rt: HostRuntime) -> Result<(), Fail> {
+    let mut account = Account::new(30);
+    let taken = take_blocks(&mut account, 3, 10);
+    assert!(rt; taken.is_ok() && account.used() == 30 && account.take(1).is_err());
     Ok(())
 }
