@@ -3,7 +3,7 @@ use Rattle.std.proofs.Common.{◌≡◌, ℕ, suc, ◌+◌, List, [], ◌∷◌,
 use Rattle.fc_tree_node.specs.declared.node.Node.{Node, Node-F, roll-Node, map-Node, fold-roll-Node, ind-Node}
 use Rattle.fc_tree_node.specs.Measures as measures
 use Rattle.fc_tree_node.specs.Tree.{Map}
-use Rattle.fc_tree_copy.specs.Blocks.{blocks_step, blocks_of, blocks_in}
+use Rattle.fc_tree_node.specs.Blocks.{blocks_step, blocks_of, blocks_in}
 use Rattle.fc_laws.specs.Held.{total, nodes_step, nodes_of, inner_step, inner_of, nodes_in, inner_in}
 
 module _ {K V Z : Type 0} where

@@ -1,7 +1,7 @@
 //! The most nodes of a map of so many pairs, and the most bytes: however the map came to be, by insertions, removals, cuts, or two made one.
 ghost use Rattle.std.specs.Prelude.{◌≡◌, ℕ, ◌+◌, ◌*◌, ◌^◌, ◌<◌, ◌≤◌, length, SomeIff};
 ghost use Rattle.fc_map.specs.Entries.{entries};
-ghost use Rattle.fc_tree_copy.specs.Blocks.{blocks_in};
+ghost use Rattle.fc_tree_node.specs.Blocks.{blocks_in};
 ghost use Rattle.fc_laws.specs.Held as held;
 
 use fc_base::Handle;

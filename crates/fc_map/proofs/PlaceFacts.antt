@@ -5,6 +5,7 @@ use Rattle.std.specs.declared.cmp.Ordering.{Ordering}
 use Rattle.fc_base.specs.OneKey.{put_by, cut}
 use Rattle.fc_base.specs.Parts.{at}
 use Rattle.fc_tree_node.proofs.Bare.{same_length, same_root}
+use Rattle.fc_tree_node.proofs.BlockFacts.{same_blocks}
 use Rattle.fc_tree_node.proofs.Gaps.{gap_pairs, place_pairs}
 use Rattle.fc_tree_search.specs.Written.{written}
 use Rattle.fc_tree_search.proofs.SearchFacts.{found_at, gap_at}
@@ -13,6 +14,7 @@ use Rattle.fc_map.specs.Entries.{Map, entries, IsSoundMap}
 use Rattle.fc_tree_node.specs.TreePlace.{pair_in}
 use Rattle.fc_map.specs.Lends.{written_in}
 use Rattle.fc_map.specs.Place.{IsHeldAt, IsOpenAt}
+use Rattle.fc_map.specs.Kept.{blocks_in}
 
 module _ {K Q V Z : Type 0} (cmp : K → Q → Ordering) (k : Q) where
   -- The pair that the path leads to is the one with an equal key.
@@ -53,6 +55,7 @@ module _ {K Q V Z : Type 0} (cmp : K → Q → Ordering) (k : Q) where
   pub record IsReplaced (old new : Map K V Z) (v : V) : Type 0 where
     pub put_is : (j : K) → entries new ≡ put_by cmp (entries old) k j v
     pub length_is : length (entries new) ≡ length (entries old)
+    pub blocks_is : blocks_in new ≡ blocks_in old
     pub sound : IsSoundMap new
 
   pub replaced : (m : Map K V Z) (path : List ℕ) (w : V) → IsSoundMap m → IsHeldAt cmp k m path → IsReplaced m (written_in m path w) w
@@ -62,5 +65,6 @@ module _ {K Q V Z : Type 0} (cmp : K → Q → Ordering) (k : Q) where
       record {
         put_is = λ j. written_put cmp k path sound.0 root j w sound.2.1 held;
         length_is = same_length root (written root path w) same;
+        blocks_is = same_blocks (written root path w) root same;
         sound = same_root root (written root path w) same sound;
       }

@@ -10,6 +10,7 @@ pub mod Unique
 pub mod Ready
 pub mod Requests
 pub mod WholeRequests
+pub mod Kept
 pub mod KeptPlace
 pub mod Entry
 pub mod ReadyEntry

@@ -4,6 +4,7 @@ ghost use Rattle.std.specs.Option.{option_map};
 ghost use Rattle.fc_base.specs.Growth.{MayGrowRefuse};
 ghost use Rattle.fc_map.specs.Counts.{IsBounded};
 ghost use Rattle.fc_map.specs.Full.{TakesNode};
+ghost use Rattle.fc_map.specs.Kept.{blocks_in, AreAllKept};
 ghost use Rattle.fc_map.specs.Requests.{insertion_requests, HasFewRequests};
 ghost use Rattle.fc_map.specs.Fewest.{HasFewestMoves};
 ghost use Rattle.fc_map.specs.Entries.{IsSoundMap, now_pair, now_value, passed_in};
@@ -226,6 +227,7 @@ impl<T: Ord + Drop, A: Handle> BTreeSet<T, A> {
         ensures none { IsSome (item_at T.cmp (items self.old) item) → asked.new.requests ≡ asked.old.requests }
         ensures room { ¬ TakesNode T.cmp item self.old → asked.new.requests ≤ asked.old.requests }
         ensures few { HasFewRequests (length (items self.old) + 1) asked.old asked.new }
+        ensures kept { OnOk result (AreAllKept self.old self.new asked.old asked.new) }
     {
         match self.map.try_insert_asked(item, (), count, asked) {
             Ok(old) => return Ok(old.is_none()),
@@ -257,6 +259,7 @@ impl<T: Ord + Drop, A: Handle> BTreeSet<T, A> {
         ensures moved { IsSome (item_at Q.order (items self.old) (Q.sought item)) → count.old.moves < count.new.moves }
         ensures fewest { HasFewestMoves self.old self.new count.old count.new }
         ensures bounded { IsBounded (length (items self.old)) count.old count.new }
+        ensures blocks { blocks_in self.new ≤ blocks_in self.old }
     {
         self.map.remove_counted(item, count).is_some()
     }
@@ -285,6 +288,7 @@ impl<T: Ord + Drop, A: Handle> BTreeSet<T, A> {
         ensures moved { IsSome (item_at Q.order (items self.old) (Q.sought item)) → count.old.moves < count.new.moves }
         ensures fewest { HasFewestMoves self.old self.new count.old count.new }
         ensures bounded { IsBounded (length (items self.old)) count.old count.new }
+        ensures blocks { blocks_in self.new ≤ blocks_in self.old }
     {
         item_of(for_sets::take(&mut self.map, item, count))
     }
@@ -368,6 +372,7 @@ impl<T: Ord + Drop, A: Handle> BTreeSet<T, A> {
         ensures none { IsSome (item_at T.cmp (items self.old) item) → asked.new.requests ≡ asked.old.requests }
         ensures room { ¬ TakesNode T.cmp item self.old → asked.new.requests ≤ asked.old.requests }
         ensures few { HasFewRequests (length (items self.old) + 1) asked.old asked.new }
+        ensures kept { OnOk result (AreAllKept self.old self.new asked.old asked.new) }
     {
         match for_sets::replace(&mut self.map, item, (), count, asked) {
             Ok(old) => return Ok(item_of(old)),

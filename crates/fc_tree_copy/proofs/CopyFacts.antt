@@ -12,9 +12,9 @@ use Rattle.fc_tree_node.proofs.Lists.{all_front, all_back, all_at}
 use Rattle.fc_tree_node.proofs.Made.{own_made, children_made, field_made}
 use Rattle.fc_tree_node.proofs.Pairs.{IsBelow, pairs_is, leaf_children}
 use Rattle.fc_base.specs.declared.try_reserve_error.TryReserveError.{TryReserveError}
-use Rattle.fc_tree_copy.specs.Blocks.{blocks_alone}
+use Rattle.fc_tree_node.specs.Blocks.{blocks_alone}
 use Rattle.fc_tree_copy.specs.Copy.{IsCopy, IsCopyUpTo, MayRefuseNodes}
-use Rattle.fc_tree_copy.proofs.BlockFacts.{all_blocks, blocks_are, alone_leaf, alone_inner}
+use Rattle.fc_tree_node.proofs.BlockFacts.{all_blocks, blocks_are, alone_leaf, alone_inner}
 
 module _ {X : Type 0} (R : X → X → Type 0) where
   zip_append : (xs us ys vs : List X) → AllZip R xs ys → AllZip R us vs → AllZip R (xs ++ us) (ys ++ vs)

@@ -5,7 +5,7 @@ use Rattle.fc_base.specs.declared.try_reserve_error.TryReserveError.{TryReserveE
 use Rattle.fc_base.specs.declared.try_reserve_error.TryReserveError.TheVariants.{AllocError}
 use Rattle.fc_tree_node.specs.declared.node.Node.{Node}
 use Rattle.fc_tree_node.specs.Node.{own_pairs, children_of, pairs_of, IsLeaf, IsLevelled}
-use Rattle.fc_tree_copy.specs.Blocks.{blocks_of}
+use Rattle.fc_tree_node.specs.Blocks.{blocks_of}
 
 -- By which error a copy of nodes with these pairs may be refused, given by which one a copy of each pair may be: `AllocError`, where a
 -- node was refused, or an error of one of the pairs' own.

@@ -4,7 +4,7 @@ ghost use Rattle.std.specs.List.{AllZip};
 ghost use Rattle.fc_base.specs.Sizes.{most_children};
 ghost use Rattle.fc_base.specs.Copies.{MayRefusePair};
 ghost use Rattle.fc_tree_node.specs.Node.{own_pairs, children_of, pairs_of, IsLeaf, IsLevelled};
-ghost use Rattle.fc_tree_copy.specs.Blocks.{blocks_alone, blocks_of};
+ghost use Rattle.fc_tree_node.specs.Blocks.{blocks_alone, blocks_of};
 ghost use Rattle.fc_tree_copy.specs.Copy.{AreSame, MayRefuseNodes, IsCopy, IsCopyUpTo};
 
 use fc_base::{Asked, Count, Handle, TryClone, TryReserveError};

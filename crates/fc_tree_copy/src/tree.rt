@@ -4,7 +4,7 @@ ghost use Rattle.std.specs.List.{AllZip};
 ghost use Rattle.fc_base.specs.Ascending.{IsAscending};
 ghost use Rattle.fc_base.specs.Copies.{MayRefuseCopies, MayRefusePair};
 ghost use Rattle.fc_tree_node.specs.Tree.{entries, IsSoundMap};
-ghost use Rattle.fc_tree_copy.specs.Blocks.{blocks_in};
+ghost use Rattle.fc_tree_node.specs.Blocks.{blocks_in};
 ghost use Rattle.fc_tree_copy.specs.Copy.{AreSame};
 
 use crate::copy::try_copy;

@@ -5,12 +5,14 @@ use Rattle.std.specs.List.{insert}
 use Rattle.std.proofs.lemmas.List.Edits.{length-insert}
 use Rattle.fc_base.specs.Sizes.{capacity}
 use Rattle.fc_tree_node.specs.declared.node.Node.{Node}
+use Rattle.fc_tree_node.specs.Blocks.{blocks_of}
 use Rattle.fc_tree_node.specs.Node.{own_pairs, child_at, pairs_of, IsLeaf, IsLevelled}
 use Rattle.fc_tree_node.specs.Path.{IsPath, before_gap, after_gap}
 use Rattle.fc_tree_node.specs.Place.{before_child, before_own, after_own, IsDescent, node_at}
 use Rattle.fc_tree_node.specs.Way.{with_pairs, with_node}
 use Rattle.fc_tree_node.proofs.Lists.{length_take}
 use Rattle.fc_tree_node.proofs.Made.{own_made, field_made}
+use Rattle.fc_tree_node.proofs.BlockFacts.{blocks_leaf, with_blocks}
 use Rattle.fc_tree_node.proofs.Gaps.{before_more, after_more, place_more, pair_more, before_own_more, after_own_more}
 use Rattle.fc_tree_node.proofs.Ways.{last_step, path_way, with_is, with_pairs_of, with_least, with_levels}
 use Rattle.fc_tree_insertion.specs.Cascade.{leaf_at}
@@ -105,3 +107,6 @@ module _ {K V Z : Type 0} where
 
     pub size_last : length (own_pairs n) ≤ length (own_pairs with_put)
     size_last = let longer = leaf_longer in with_least (take last path) n _ (length (own_pairs n)) (λ le. omega arith) (omega arith)
+
+    pub blocks_last : blocks_of with_put ≡ blocks_of n
+    blocks_last = with_blocks (take last path) n _ r.descent (blocks_leaf _ leaf_leaf ∙ sym (blocks_leaf _ r.leaf))

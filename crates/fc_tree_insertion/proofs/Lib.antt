@@ -1,5 +1,6 @@
 pub mod InsertedPairs
 pub mod InsertedLevels
+mod InsertedBlocks
 pub mod Cascades
 pub mod NewPairSteps
 pub mod NewPairs

@@ -1,7 +1,8 @@
 -- What an insertion leaves of a node, and what the node hands out where it was split.
-use Rattle.std.specs.Prelude.{◌+◌, ◌≤◌, List, ◌∷◌, ◌++◌, length, Option, Some, None}
+use Rattle.std.specs.Prelude.{ℕ, ◌+◌, ◌≤◌, List, ◌∷◌, ◌++◌, length, Option, Some, None}
 use Rattle.fc_base.specs.Sizes.{min_len}
 use Rattle.fc_tree_node.specs.declared.node.Node.{Node}
+use Rattle.fc_tree_node.specs.Blocks.{blocks_of}
 use Rattle.fc_tree_node.specs.Node.{own_pairs, children_of, pairs_of}
 
 -- The pair in the middle and the node of those after it, where a node was split.
@@ -27,3 +28,8 @@ module _ {K V Z : Type 0} where
   -- The node has the fewest pairs or one more, as each half of a node that was split.
   abbrev pub IsHalved : Node K V Z → Type 0
   IsHalved n = (min_len ≤ length (own_pairs n)) × (length (own_pairs n) ≤ min_len + 1)
+
+  -- The blocks of the node and of all below it, and of what it handed out.
+  abbrev pub blocks_after : Node K V Z → Split K V Z → ℕ
+  blocks_after n None = blocks_of n
+  blocks_after n (Some (up, right)) = blocks_of n + blocks_of right

@@ -3,8 +3,9 @@ ghost use Rattle.std.specs.Prelude.{◌≡◌, ◌+◌, ◌-◌, ◌*◌, ◌<�
 ghost use Rattle.fc_base.specs.Sizes.{capacity, most_levels, level_moves, most_split_moves};
 ghost use Rattle.fc_tree_node.specs.Node.{own_pairs, children_of, pairs_of, IsLeaf, IsInner, IsLevelled, IsSoundRoot, IsEmptyLeaf, IsEmptyInner};
 ghost use Rattle.fc_tree_node.specs.Path.{IsPath, before_gap, after_gap};
-ghost use Rattle.fc_tree_insertion.specs.Cascade.{all_full, cascade, nodes_needed, insertion_moves, IsSpareLeaf};
-ghost use Rattle.fc_tree_insertion.specs.Insertion.{spread, own_pairs_after, children_after, IsHalved};
+ghost use Rattle.fc_tree_node.specs.Blocks.{blocks_of};
+ghost use Rattle.fc_tree_insertion.specs.Cascade.{all_full, cascade, nodes_needed, requests_for, insertion_moves, IsSpareLeaf};
+ghost use Rattle.fc_tree_insertion.specs.Insertion.{spread, own_pairs_after, children_after, blocks_after, IsHalved};
 ghost use Rattle.fc_tree_node.specs.Split.{left_length, split_moves};
 ghost use Rattle.fc_tree_insertion.specs.NewPair.{steps_after, path_after, IsPutAt, IsLedToNewPair};
 
@@ -41,6 +42,7 @@ pub fn insert<K: Drop, V: Drop, A: Handle>(
     // The tree is as high as before, unless each node of the path was full: then a new root stands above it, with one pair.
     ensures same_height { IsFalse (all_full path.old root.old) → IsSoundRoot (length path.old - 1) root.new }
     ensures higher { IsTrue (all_full path.old root.old) → IsSoundRoot (length path.old) root.new × (length (own_pairs root.new) ≡ 1) }
+    ensures blocks { blocks_of root.new ≡ blocks_of root.old + requests_for (nodes_needed path.old root.old) }
     ensures comparisons { count.new.comparisons ≡ count.old.comparisons }
     ensures moves { count.new.moves ≤ count.old.moves + insertion_moves path.old root.old }
     ensures few_moves { count.new.moves ≤ count.old.moves + level_moves * length path.old }
@@ -71,6 +73,7 @@ fn insert_with<K: Drop, V: Drop, A: Handle>(
     ensures place { IsPutAt (path_after (nodes_needed path.now root.old) path.now) root.new pair (before_gap path.now root.old) (after_gap path.now root.old) }
     ensures same_height { IsFalse (all_full path.now root.old) → IsSoundRoot (length path.now - 1) root.new }
     ensures higher { IsTrue (all_full path.now root.old) → IsSoundRoot (length path.now) root.new × (length (own_pairs root.new) ≡ 1) }
+    ensures blocks { blocks_of root.new ≡ blocks_of root.old + requests_for (nodes_needed path.now root.old) }
     ensures comparisons { count.new.comparisons ≡ count.old.comparisons }
     ensures moves { count.new.moves ≤ count.old.moves + insertion_moves path.now root.old }
     ensures few_moves { count.new.moves ≤ count.old.moves + level_moves * length path.now }
@@ -138,6 +141,9 @@ fn insert_below<K: Drop, V: Drop, A: Handle>(
     // The node is halved where all of the path was full, and an inner node is used for each that was halved above the leaf.
     ensures halved { MatchOption result (cascade path.now node.old < length path.now) (λ _. cascade path.now node.old ≡ length path.now) }
     ensures used { inner.new + (cascade path.now node.old - 1) ≡ inner.old }
+
+    // The blocks that nodes made ahead have are the tree's now.
+    ensures blocks { blocks_after node.new result ≡ blocks_of node.old + requests_for (cascade path.now node.old) }
     ensures comparisons { count.new.comparisons ≡ count.old.comparisons }
     ensures moves { MatchOption result (count.new.moves ≤ count.old.moves + most_split_moves * cascade path.now node.old + capacity) (λ _. count.new.moves ≤ count.old.moves + most_split_moves * cascade path.now node.old) }
     ensures moved { count.old.moves < count.new.moves }
@@ -228,6 +234,7 @@ pub fn first_leaf<K: Drop, V: Drop, A: Handle>(
 ) -> Result<Node<K, V, A>, (K, V, TryReserveError)>
     ensures pairs { IfOk result (λ root. pairs_of root ≡ pair ∷ []) }
     ensures sound { IfOk result (λ root. IsSoundRoot 0 root) }
+    ensures blocks { IfOk result (λ root. blocks_of root ≡ 1) }
     ensures back { IfErr result (λ e. (e.0, e.1) ≡ pair) }
     ensures error { IfErr result (λ e. e.2 ≡ TryReserveError.AllocError) }
     ensures comparisons { count.new.comparisons ≡ count.old.comparisons }

@@ -1,6 +1,7 @@
 //! Insertion into a leaf that has room, by which no other node changes.
 ghost use Rattle.std.specs.Prelude.{◌≡◌, ◌+◌, ◌-◌, ◌<◌, ◌≤◌, ◌∷◌, ◌++◌, ◌↔◌, length, IsTrue};
 ghost use Rattle.fc_base.specs.Sizes.{capacity};
+ghost use Rattle.fc_tree_node.specs.Blocks.{blocks_of};
 ghost use Rattle.fc_tree_node.specs.Node.{own_pairs, pairs_of, IsLevelled};
 ghost use Rattle.fc_tree_node.specs.Path.{IsPath, before_gap, after_gap};
 ghost use Rattle.fc_tree_insertion.specs.NewPair.{IsPutAt};
@@ -44,6 +45,7 @@ pub fn insert_in_leaf<K: Drop, V: Drop, A: Handle>(
     // The levels are as before.
     ensures levels { IsLevelled (length path.now - 1) node.new }
     ensures size { length (own_pairs node.old) ≤ length (own_pairs node.new) }
+    ensures blocks { blocks_of node.new ≡ blocks_of node.old }
     ensures comparisons { count.new.comparisons ≡ count.old.comparisons }
     ensures moves { count.new.moves ≤ count.old.moves + capacity }
     ensures moved { count.old.moves < count.new.moves }

@@ -5,6 +5,7 @@ ghost use Rattle.fc_tree_node.specs.Node.{own_pairs, pairs_of, IsLevelled, IsSou
 ghost use Rattle.fc_tree_node.specs.Depth.{HasFewMoves};
 ghost use Rattle.fc_tree_node.specs.Path.{IsPath, before_gap, after_gap};
 ghost use Rattle.fc_tree_node.specs.Tree.{IsSoundMap};
+ghost use Rattle.fc_tree_node.specs.Blocks.{blocks_of};
 ghost use Rattle.fc_tree_insertion.specs.NewPair.{IsPutAt};
 ghost use Rattle.fc_tree_insertion.specs.Cascade.{leaf_at, nodes_needed, requests_for};
 
@@ -59,6 +60,7 @@ pub fn insert_ready<K: Drop, V: Drop, A: Handle>(
     ensures place { IsPutAt path.new root.new pair (before_gap path.old root.old) (after_gap path.old root.old) }
     ensures length { length (pairs_of root.new) ≡ length (pairs_of root.old) + 1 }
     ensures sound { IsSoundMap (Some root.new) }
+    ensures blocks { blocks_of root.new ≡ blocks_of root.old + requests_for (nodes_needed path.old root.old) }
     ensures comparisons { count.new.comparisons ≡ count.old.comparisons }
     ensures moves { HasFewMoves (length (pairs_of root.new)) count.old count.new }
     ensures moved { count.old.moves < count.new.moves }
@@ -90,6 +92,7 @@ pub fn try_insert<K: Drop, V: Drop, A: Handle>(
     ensures place { OnOk result (IsPutAt path.new root.new pair (before_gap path.old root.old) (after_gap path.old root.old)) }
     ensures length { OnOk result (length (pairs_of root.new) ≡ length (pairs_of root.old) + 1) }
     ensures sound { IsSoundMap (Some root.new) }
+    ensures blocks { OnOk result (blocks_of root.new ≡ blocks_of root.old + requests_for (nodes_needed path.old root.old)) }
     ensures unchanged { OnErr result (root.new ≡ root.old) }
     ensures back { IfErr result (λ e. (e.0 ≡ pair.0) × (e.1 ≡ pair.1)) }
     ensures error { IfErr result (λ e. e.2 ≡ TryReserveError.AllocError) }

@@ -43,7 +43,7 @@ module _ {X Y : Type 0} (f : X → Y) where
     all_here g (x ∷ xs) a = (g x a.0, all_here g xs a.1)
 
   module _ {K V Z : Type 0} where
-    mapped : (ps : List (K × V)) (o : Option (List X)) → map-Node K V Z X Y f (record { pairs = ps; children = o })
+    pub mapped : (ps : List (K × V)) (o : Option (List X)) → map-Node K V Z X Y f (record { pairs = ps; children = o })
         ≡ record { pairs = ps; children = option_map (map f) o }
     mapped ps None = refl
     mapped ps (Some cs) = refl
@@ -54,7 +54,7 @@ module _ {X Y : Type 0} (f : X → Y) where
 
 module _ {K V Z : Type 0} where
   -- its parts
-  rolled : (ps : List (K × V)) (o : Option (List (Node K V Z))) → bare (roll-Node K V Z (record { pairs = ps; children = o }))
+  pub rolled : (ps : List (K × V)) (o : Option (List (Node K V Z))) → bare (roll-Node K V Z (record { pairs = ps; children = o }))
       ≡ roll-Node K (Unit {0}) Z (record { pairs = map key_alone ps; children = option_map (map bare) o })
   rolled ps o = fold-roll-Node K V Z (Node K (Unit {0}) Z) bare_step (record { pairs = ps; children = o }) ∙ ap bare_step (mapped bare ps o)
 

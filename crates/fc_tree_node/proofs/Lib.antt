@@ -2,6 +2,7 @@ pub mod Lists
 pub mod Weaves
 pub mod Pairs
 pub mod MeasureFacts
+pub mod BlockFacts
 pub mod Made
 pub mod Cuts
 pub mod Formed

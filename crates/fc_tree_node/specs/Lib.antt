@@ -17,3 +17,4 @@ pub mod Lends
 pub mod Way
 pub mod Bare
 pub mod Requests
+pub mod Blocks

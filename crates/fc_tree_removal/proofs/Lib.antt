@@ -4,3 +4,4 @@ pub mod Spared
 pub mod FewestFacts
 pub mod Replaced
 pub mod Exchanged
+mod RemovedBlocks

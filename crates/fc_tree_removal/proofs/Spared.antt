@@ -6,11 +6,13 @@ use Rattle.std.proofs.lemmas.List.Edits.{length-remove}
 use Rattle.fc_base.specs.Sizes.{capacity, min_len}
 use Rattle.fc_tree_node.specs.Weave.{weave}
 use Rattle.fc_tree_node.specs.declared.node.Node.{Node}
+use Rattle.fc_tree_node.specs.Blocks.{blocks_of}
 use Rattle.fc_tree_node.specs.Node.{own_pairs, child_at, pairs_of, IsLeaf, IsLevelled}
 use Rattle.fc_tree_node.specs.Path.{before_gap, after_gap}
 use Rattle.fc_tree_node.specs.Place.{before_own, after_own, IsDescent, node_at, IsPlace, place_pair, before_pair, after_pair}
 use Rattle.fc_tree_node.specs.Way.{with_pairs, with_node}
 use Rattle.fc_tree_node.specs.Shrunk.{IsOneFewer, IsShrunk}
+use Rattle.fc_tree_node.proofs.BlockFacts.{blocks_leaf, with_blocks}
 use Rattle.fc_tree_node.proofs.Made.{own_made, field_made}
 use Rattle.fc_tree_node.proofs.Pairs.{leaf_pairs, leaf_children}
 use Rattle.fc_tree_node.proofs.Gaps.{pair_more, before_own_more, after_own_more, descent_levels}
@@ -132,3 +134,6 @@ module _ {K V Z : Type 0} where
         let d = descent_levels (take last path) h n l s.descent in
         let z = none_leaf d.0 leaf s.leaf d.2 in
         (subst (λ k. IsLevelled k leaf) z d.2).0
+
+    pub blocks_out : blocks_of without ≡ blocks_of n
+    blocks_out = with_blocks (take last path) n left s.descent (blocks_leaf left left_leaf ∙ sym (blocks_leaf leaf s.leaf))

@@ -1,6 +1,7 @@
 //! The first or the last pair of a tree taken out, with the nodes above it rebalanced.
 ghost use Rattle.std.specs.Prelude.{◌≡◌, ℕ, ◌+◌, ◌*◌, ◌<◌, ◌≤◌, [], ◌∷◌, ◌++◌, length};
 ghost use Rattle.fc_base.specs.Sizes.{capacity, level_moves};
+ghost use Rattle.fc_tree_node.specs.Blocks.{blocks_of, blocks_in};
 ghost use Rattle.fc_tree_node.specs.Node.{own_pairs, pairs_of, IsSoundRoot};
 ghost use Rattle.fc_tree_node.specs.Tree.{entries};
 ghost use Rattle.fc_tree_removal.specs.Fewest.{fewest_moves, HasFewestMoves};
@@ -26,6 +27,7 @@ pub fn take_first<K: Drop, V: Drop, A: Handle>(
     ensures moved { count.old.moves < count.new.moves }
     ensures fewest { HasFewestMoves tree.old tree.new count.old count.new }
     ensures comparisons { count.new.comparisons ≡ count.old.comparisons }
+    ensures blocks { blocks_in tree.new ≤ blocks_in tree.old }
 {
     let Some(root) = tree else { unreachable!() };
     let node: &mut Node<K, V, A> = root;
@@ -51,6 +53,7 @@ pub fn take_last<K: Drop, V: Drop, A: Handle>(
     ensures moved { count.old.moves < count.new.moves }
     ensures fewest { HasFewestMoves tree.old tree.new count.old count.new }
     ensures comparisons { count.new.comparisons ≡ count.old.comparisons }
+    ensures blocks { blocks_in tree.new ≤ blocks_in tree.old }
 {
     let Some(root) = tree else { unreachable!() };
     let node: &mut Node<K, V, A> = root;
@@ -74,6 +77,7 @@ pub fn remove_last<K: Drop, V: Drop, A: Handle>(
     ensures moved { count.old.moves < count.new.moves }
     ensures fewest { (h : ℕ) → IsSoundRoot h node.old → length (own_pairs node.new) < length (own_pairs node.old) → count.old.moves + fewest_moves h ≤ count.new.moves }
     ensures comparisons { count.new.comparisons ≡ count.old.comparisons }
+    ensures blocks { blocks_of node.new ≤ blocks_of node.old }
 {
     let end = node.len();
     if node.is_leaf() {

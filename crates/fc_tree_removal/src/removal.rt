@@ -1,6 +1,7 @@
 //! Removal at a place, which rebalances the nodes above it on its way up.
 ghost use Rattle.std.specs.Prelude.{◌≡◌, ℕ, suc, ◌+◌, ◌-◌, ◌*◌, ◌<◌, ◌≤◌, [], ◌∷◌, ◌++◌, length, Some, IsTrue};
 ghost use Rattle.fc_base.specs.Sizes.{capacity, min_len, most_levels, level_moves};
+ghost use Rattle.fc_tree_node.specs.Blocks.{blocks_of, blocks_in};
 ghost use Rattle.fc_tree_node.specs.Node.{own_pairs, child_at, pairs_of, IsLevelled, IsSoundRoot};
 ghost use Rattle.fc_tree_node.specs.Place.{IsPlace, place_pair, before_pair, after_pair};
 ghost use Rattle.fc_tree_node.specs.Siblings.{IsMerged, IsShared};
@@ -35,6 +36,7 @@ pub fn remove<K: Drop, V: Drop, A: Handle>(
     ensures moved { count.old.moves < count.new.moves }
     ensures fewest { HasFewestMoves tree.old tree.new count.old count.new }
     ensures comparisons { count.new.comparisons ≡ count.old.comparisons }
+    ensures blocks { blocks_in tree.new ≤ blocks_in tree.old }
 {
     let Some(root) = tree else { unreachable!() };
     let node: &mut Node<K, V, A> = root;
@@ -79,6 +81,7 @@ fn remove_spared<K: Drop, V: Drop, A: Handle>(
     ensures moved { count.old.moves < count.new.moves }
     ensures fewest { (h : ℕ) → IsSoundRoot h node.old → length (own_pairs node.new) < length (own_pairs node.old) → count.old.moves + fewest_moves h ≤ count.new.moves }
     ensures comparisons { count.new.comparisons ≡ count.old.comparisons }
+    ensures blocks { blocks_of node.new ≤ blocks_of node.old }
 {
     let last = path.len() - 1;
     let i = path[last] as usize;
@@ -91,6 +94,7 @@ pub(crate) fn take_empty_root<K: Drop, V: Drop, A: Handle>(tree: &mut Option<Nod
     requires { (root : Node K V A) × (tree.old ≡ Some root) × (h : ℕ) × IsLevelled h root }
     ensures pairs { entries tree.new ≡ entries tree.old }
     ensures levels { (root : Node K V A) → tree.old ≡ Some root → (h : ℕ) → IsLevelled h root → IsTreeLeft h tree.new }
+    ensures blocks { blocks_in tree.new ≤ blocks_in tree.old }
 {
     let Some(root) = tree.take() else {
         unreachable!()
@@ -103,6 +107,7 @@ fn without_empty_root<K: Drop, V: Drop, A: Handle>(root: Node<K, V, A>) -> Optio
     requires { (h : ℕ) × IsLevelled h root }
     ensures pairs { entries result ≡ pairs_of root }
     ensures levels { (h : ℕ) → IsLevelled h root → IsTreeLeft h result }
+    ensures blocks { blocks_in result ≤ blocks_of root }
 {
     if root.len() > 0 {
         return Some(root);
@@ -125,6 +130,7 @@ fn remove_at<K: Drop, V: Drop, A: Handle>(
     ensures moved { count.old.moves < count.new.moves }
     ensures fewest { (h : ℕ) → IsSoundRoot h node.old → length (own_pairs node.new) < length (own_pairs node.old) → count.old.moves + fewest_moves h ≤ count.new.moves }
     ensures comparisons { count.new.comparisons ≡ count.old.comparisons }
+    ensures blocks { blocks_of node.new ≤ blocks_of node.old }
 {
     let i = path[0] as usize;
     if path.len() == 1 {
@@ -150,6 +156,7 @@ fn remove_own<K: Drop, V: Drop, A: Handle>(
     ensures moved { count.old.moves < count.new.moves }
     ensures fewest { (h : ℕ) → IsSoundRoot h node.old → length (own_pairs node.new) < length (own_pairs node.old) → count.old.moves + fewest_moves h ≤ count.new.moves }
     ensures comparisons { count.new.comparisons ≡ count.old.comparisons }
+    ensures blocks { blocks_of node.new ≤ blocks_of node.old }
 {
     if node.is_leaf() {
         return node.remove_leaf(index, count);
@@ -172,6 +179,7 @@ pub fn remove_first<K: Drop, V: Drop, A: Handle>(
     ensures moved { count.old.moves < count.new.moves }
     ensures fewest { (h : ℕ) → IsSoundRoot h node.old → length (own_pairs node.new) < length (own_pairs node.old) → count.old.moves + fewest_moves h ≤ count.new.moves }
     ensures comparisons { count.new.comparisons ≡ count.old.comparisons }
+    ensures blocks { blocks_of node.new ≤ blocks_of node.old }
 {
     if node.is_leaf() {
         return node.remove_leaf(0, count);
@@ -201,6 +209,7 @@ pub(crate) fn rebalance_child<K: Drop, V: Drop, A: Handle>(
     ensures least { length (own_pairs (child_at node.old index)) < min_len → count.old.moves + least_rebalancing ≤ count.new.moves }
     ensures moves { count.new.moves ≤ count.old.moves + level_moves }
     ensures comparisons { count.new.comparisons ≡ count.old.comparisons }
+    ensures blocks { blocks_of node.new ≤ blocks_of node.old }
 {
     if node.child(index).len() >= MIN_LEN {
         return;
@@ -231,6 +240,7 @@ fn rebalance_short<K: Drop, V: Drop, A: Handle>(
     ensures moves { count.new.moves ≤ count.old.moves + level_moves }
     ensures theft_moves { capacity < together node.old (index - 1) → count.new.moves ≤ count.old.moves + (capacity + 3) }
     ensures comparisons { count.new.comparisons ≡ count.old.comparisons }
+    ensures blocks { blocks_of node.new ≤ blocks_of node.old }
 {
     let place = index.saturating_sub(1);
     if node.child(place).len() + node.child(place + 1).len() < CAPACITY {

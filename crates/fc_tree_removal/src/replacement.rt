@@ -1,6 +1,7 @@
 //! A pair put in the place of another one, by which no other pair moves.
 ghost use Rattle.std.specs.Prelude.{◌≡◌, ℕ, ◌+◌, ◌<◌, [], ◌∷◌, ◌++◌, length, Some};
 ghost use Rattle.fc_tree_node.specs.Depth.{HasFewMoves};
+ghost use Rattle.fc_tree_node.specs.Blocks.{blocks_of};
 ghost use Rattle.fc_tree_node.specs.Node.{own_pairs, pairs_of, IsLevelled};
 ghost use Rattle.fc_tree_node.specs.Place.{IsPlace, place_pair, before_pair, after_pair};
 ghost use Rattle.fc_tree_node.specs.Tree.{IsSoundMap};
@@ -30,6 +31,7 @@ pub fn exchange<K: Drop, V: Drop, A: Handle>(
     ensures moves { HasFewMoves (length (pairs_of root.new)) count.old count.new }
     ensures exchanged { count.new.moves ≡ count.old.moves + 2 }
     ensures comparisons { count.new.comparisons ≡ count.old.comparisons }
+    ensures blocks { blocks_of root.new ≡ blocks_of root.old }
 {
     replace(root, path.as_slice(), pair, count)
 }
@@ -53,6 +55,7 @@ pub fn replace<K: Drop, V: Drop, A: Handle>(
     ensures levels { (h : ℕ) → IsLevelled h node.old → IsLevelled h node.new }
     ensures moves { count.new.moves ≡ count.old.moves + 2 }
     ensures comparisons { count.new.comparisons ≡ count.old.comparisons }
+    ensures blocks { blocks_of node.new ≡ blocks_of node.old }
 {
     let i = path[0] as usize;
     if path.len() == 1 {
@@ -76,6 +79,7 @@ fn replace_own<K: Drop, V: Drop, A: Handle>(
     ensures levels { (h : ℕ) → IsLevelled h node.old → IsLevelled h node.new }
     ensures moves { count.new.moves ≡ count.old.moves + 2 }
     ensures comparisons { count.new.comparisons ≡ count.old.comparisons }
+    ensures blocks { blocks_of node.new ≡ blocks_of node.old }
 {
     node.replace_pair(index, pair, count)
 }

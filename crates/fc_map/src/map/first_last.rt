@@ -1,8 +1,9 @@
 //! The first and the last pair of a map, read or taken out.
-ghost use Rattle.std.specs.Prelude.{◌≡◌, ◌-◌, ◌<◌, [], ◌∷◌, ◌++◌, length, slice_get, IfNone, OnSome, MatchOption};
+ghost use Rattle.std.specs.Prelude.{◌≡◌, ◌-◌, ◌<◌, ◌≤◌, [], ◌∷◌, ◌++◌, length, slice_get, IfNone, OnSome, MatchOption};
 ghost use Rattle.fc_base.specs.Ascending.{IsAscending};
 ghost use Rattle.fc_map.specs.Counts.{IsBounded};
 ghost use Rattle.fc_map.specs.Entries.{entries, now_pair, IsSoundMap};
+ghost use Rattle.fc_map.specs.Kept.{blocks_in};
 ghost use Rattle.fc_map.specs.Fewest.{HasFewestMoves};
 
 use super::BTreeMap;
@@ -65,6 +66,7 @@ impl<K: Ord + Drop, V: Drop, A: Handle> BTreeMap<K, V, A> {
         ensures moved { OnSome result (count.old.moves < count.new.moves) }
         ensures fewest { HasFewestMoves self.old self.new count.old count.new }
         ensures bounded { IsBounded (length (entries self.old)) count.old count.new }
+        ensures blocks { blocks_in self.new ≤ blocks_in self.old }
     {
         if self.root.is_none() {
             return None;
@@ -96,6 +98,7 @@ impl<K: Ord + Drop, V: Drop, A: Handle> BTreeMap<K, V, A> {
         ensures moved { OnSome result (count.old.moves < count.new.moves) }
         ensures fewest { HasFewestMoves self.old self.new count.old count.new }
         ensures bounded { IsBounded (length (entries self.old)) count.old count.new }
+        ensures blocks { blocks_in self.new ≤ blocks_in self.old }
     {
         if self.root.is_none() {
             return None;

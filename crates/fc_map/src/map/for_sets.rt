@@ -10,6 +10,7 @@ ghost use Rattle.fc_base.specs.Ranges.{within};
 ghost use Rattle.fc_map.specs.Counts.{IsBounded};
 ghost use Rattle.fc_map.specs.Entries.{entries, IsSoundMap, passed_in};
 ghost use Rattle.fc_map.specs.Full.{TakesNode};
+ghost use Rattle.fc_map.specs.Kept.{blocks_in, AreAllKept};
 ghost use Rattle.fc_map.specs.Place.{IsHeldAt};
 ghost use Rattle.fc_map.specs.Ranged.{replacing};
 ghost use Rattle.fc_map.specs.Requests.{insertion_requests, HasFewRequests};
@@ -43,6 +44,7 @@ pub fn take<K: Ord + Drop, V: Drop, Q: Query<K>, A: Handle>(
     ensures moved { IsSome (at Q.order (entries map.old) (Q.sought key)) → count.old.moves < count.new.moves }
     ensures fewest { HasFewestMoves map.old map.new count.old count.new }
     ensures bounded { IsBounded (length (entries map.old)) count.old count.new }
+    ensures blocks { blocks_in map.new ≤ blocks_in map.old }
 {
     let mut path = Path::new();
     match map.locate(key, &mut path, count) {
@@ -84,6 +86,7 @@ pub fn replace<K: Ord + Drop, V: Drop, A: Handle>(
     ensures none { IsSome (at K.cmp (entries map.old) key) → asked.new.requests ≡ asked.old.requests }
     ensures room { ¬ TakesNode K.cmp key map.old → asked.new.requests ≤ asked.old.requests }
     ensures few { HasFewRequests (length (entries map.old) + 1) asked.old asked.new }
+    ensures kept { OnOk result (AreAllKept map.old map.new asked.old asked.new) }
 {
     let mut path = Path::new();
     match map.locate(&key, &mut path, count) {
@@ -154,6 +157,7 @@ impl<K: Ord + Drop, V: Drop, A: Handle> BTreeMap<K, V, A> {
         ensures moves { HasFewMoves (length (entries self.new)) count.old count.new }
         ensures exchanged { count.new.moves ≡ count.old.moves + 2 }
         ensures comparisons { count.new.comparisons ≡ count.old.comparisons }
+        ensures blocks { blocks_in self.new ≡ blocks_in self.old }
     {
         let Some(root) = &mut self.root else {
             unreachable!()

@@ -7,6 +7,7 @@ ghost use Rattle.fc_base.specs.Parts.{at, value_at};
 ghost use Rattle.fc_map.specs.Counts.{IsBounded};
 ghost use Rattle.fc_map.specs.Entries.{entries, IsSoundMap, passed_in};
 ghost use Rattle.fc_map.specs.Full.{IsFullAt, TakesNode};
+ghost use Rattle.fc_map.specs.Kept.{blocks_in, AreAllKept};
 ghost use Rattle.fc_map.specs.Requests.{requests_at, insertion_requests, HasFewRequests};
 ghost use Rattle.fc_map.specs.Place.{IsHeldAt, IsOpenAt, IsPutIn, TellsRoom};
 ghost use Rattle.fc_tree_node.specs.Depth.{HasFewMoves};
@@ -102,6 +103,7 @@ impl<K: Ord + Drop, V: Drop, A: Handle> BTreeMap<K, V, A> {
         ensures at_most { asked.new.requests ≤ asked.old.requests + insertion_requests K.cmp key self.old }
         ensures none { IsSome (at K.cmp (entries self.old) key) → asked.new.requests ≡ asked.old.requests }
         ensures room { ¬ TakesNode K.cmp key self.old → asked.new.requests ≤ asked.old.requests }
+        ensures kept { OnOk result (AreAllKept self.old self.new asked.old asked.new) }
         ensures few { HasFewRequests (length (entries self.old) + 1) asked.old asked.new }
     {
         let mut path = Path::new();
@@ -165,6 +167,7 @@ impl<K: Ord + Drop, V: Drop, A: Handle> BTreeMap<K, V, A> {
         ensures put { entries self.new ≡ put K.cmp (entries self.old) key.now value }
         ensures length { length (entries self.new) ≡ length (entries self.old) }
         ensures ascending { IsAscending K.cmp (entries self.new) }
+        ensures blocks { blocks_in self.new ≡ blocks_in self.old }
         ensures sound { IsSoundMap self.new }
     {
         mem::replace(self.value_mut(path), value)
@@ -200,6 +203,7 @@ impl<K: Ord + Drop, V: Drop, A: Handle> BTreeMap<K, V, A> {
         ensures requests { OnOk result (asked.new.requests ≡ asked.old.requests + requests_at self.old path.old) }
         ensures at_most { asked.new.requests ≤ asked.old.requests + requests_at self.old path.old }
         ensures room { ¬ IsFullAt self.old path.old → asked.new.requests ≤ asked.old.requests }
+        ensures blocks { OnOk result (blocks_in self.new ≡ blocks_in self.old + requests_at self.old path.old) }
         ensures few { HasFewRequests (length (entries self.old) + 1) asked.old asked.new }
     {
         if has_room && self.len < usize::MAX {
@@ -219,6 +223,7 @@ impl<K: Ord + Drop, V: Drop, A: Handle> BTreeMap<K, V, A> {
         ensures place { IsPutIn path.now self.new pair (before_gap_in self.old path.now) (after_gap_in self.old path.now) }
         ensures ascending { IsAscending K.cmp (entries self.new) }
         ensures sound { IsSoundMap self.new }
+        ensures blocks { blocks_in self.new ≡ blocks_in self.old }
         ensures comparisons { count.new.comparisons ≡ count.old.comparisons }
         ensures length { length (entries self.new) ≡ length (entries self.old) + 1 }
         ensures moves { HasFewMoves (length (entries self.new)) count.old count.new }
@@ -260,6 +265,7 @@ impl<K: Ord + Drop, V: Drop, A: Handle> BTreeMap<K, V, A> {
         ensures requests { OnOk result (asked.new.requests ≡ asked.old.requests + requests_at self.old path.old) }
         ensures at_most { asked.new.requests ≤ asked.old.requests + requests_at self.old path.old }
         ensures room { ¬ IsFullAt self.old path.old → asked.new.requests ≤ asked.old.requests }
+        ensures blocks { OnOk result (blocks_in self.new ≡ blocks_in self.old + requests_at self.old path.old) }
         ensures few { HasFewRequests (length (entries self.old) + 1) asked.old asked.new }
     {
         if self.len == usize::MAX {
@@ -296,6 +302,7 @@ impl<K: Ord + Drop, V: Drop, A: Handle> BTreeMap<K, V, A> {
         ensures no_move { OnErr result (count.new.moves ≡ count.old.moves) }
         ensures moves { OnOk result (HasFewMoves 1 count.old count.new) }
         ensures moved { OnOk result (count.old.moves < count.new.moves) }
+        ensures blocks { OnOk result (blocks_in self.new ≡ 1) }
         ensures requests { asked.new.requests ≡ asked.old.requests + 1 }
     {
         let root = first_leaf(self.alloc, (key, value), count, asked)?;

@@ -1,10 +1,11 @@
 //! Removal of a pair.
-ghost use Rattle.std.specs.Prelude.{◌≡◌, ◌+◌, ◌<◌, ◌++◌, length, IsSome, None, Some};
+ghost use Rattle.std.specs.Prelude.{◌≡◌, ◌+◌, ◌<◌, ◌≤◌, ◌++◌, length, IsSome, None, Some};
 ghost use Rattle.fc_base.specs.Ascending.{IsAscending};
 ghost use Rattle.fc_base.specs.OneKey.{cut};
 ghost use Rattle.fc_base.specs.Parts.{at, value_at};
 ghost use Rattle.fc_map.specs.Counts.{IsBounded};
 ghost use Rattle.fc_map.specs.Entries.{entries, IsSoundMap, passed_in};
+ghost use Rattle.fc_map.specs.Kept.{blocks_in};
 ghost use Rattle.fc_map.specs.Place.{IsHeldAt};
 ghost use Rattle.fc_tree_node.specs.Depth.{HasFewMoves};
 ghost use Rattle.fc_map.specs.Fewest.{HasFewestMoves};
@@ -41,6 +42,7 @@ impl<K: Ord + Drop, V: Drop, A: Handle> BTreeMap<K, V, A> {
         ensures moved { IsSome (at Q.order (entries self.old) (Q.sought key)) → count.old.moves < count.new.moves }
         ensures fewest { HasFewestMoves self.old self.new count.old count.new }
         ensures bounded { IsBounded (length (entries self.old)) count.old count.new }
+        ensures blocks { blocks_in self.new ≤ blocks_in self.old }
     {
         match self.remove_entry_counted(key, count) {
             Some(pair) => Some(pair.1),
@@ -73,6 +75,7 @@ impl<K: Ord + Drop, V: Drop, A: Handle> BTreeMap<K, V, A> {
         ensures moved { IsSome (at Q.order (entries self.old) (Q.sought key)) → count.old.moves < count.new.moves }
         ensures fewest { HasFewestMoves self.old self.new count.old count.new }
         ensures bounded { IsBounded (length (entries self.old)) count.old count.new }
+        ensures blocks { blocks_in self.new ≤ blocks_in self.old }
     {
         let mut path = Path::new();
         match self.locate(key, &mut path, count) {
@@ -99,6 +102,7 @@ impl<K: Ord + Drop, V: Drop, A: Handle> BTreeMap<K, V, A> {
         ensures moves { HasFewMoves (length (entries self.old)) count.old count.new }
         ensures moved { count.old.moves < count.new.moves }
         ensures fewest { HasFewestMoves self.old self.new count.old count.new }
+        ensures blocks { blocks_in self.new ≤ blocks_in self.old }
     {
         self.take_at(path, count)
     }
@@ -115,6 +119,7 @@ impl<K: Ord + Drop, V: Drop, A: Handle> BTreeMap<K, V, A> {
         ensures moves { HasFewMoves (length (entries self.old)) count.old count.new }
         ensures moved { count.old.moves < count.new.moves }
         ensures fewest { HasFewestMoves self.old self.new count.old count.new }
+        ensures blocks { blocks_in self.new ≤ blocks_in self.old }
     {
         let pair = remove(&mut self.root, path.as_slice(), count);
         self.len -= 1;

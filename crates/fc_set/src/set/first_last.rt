@@ -1,7 +1,8 @@
 //! The first and the last item of a set, read or taken out.
-ghost use Rattle.std.specs.Prelude.{◌≡◌, ◌-◌, ◌<◌, [], ◌∷◌, ◌++◌, length, slice_get, IfNone, OnSome, MatchOption};
+ghost use Rattle.std.specs.Prelude.{◌≡◌, ◌-◌, ◌<◌, ◌≤◌, [], ◌∷◌, ◌++◌, length, slice_get, IfNone, OnSome, MatchOption};
 ghost use Rattle.fc_map.specs.Counts.{IsBounded};
 ghost use Rattle.fc_map.specs.Fewest.{HasFewestMoves};
+ghost use Rattle.fc_map.specs.Kept.{blocks_in};
 ghost use Rattle.fc_map.specs.Entries.{IsSoundMap, now_value};
 ghost use Rattle.fc_set.specs.Items.{items, AreAscending};
 
@@ -49,6 +50,7 @@ impl<T: Ord + Drop, A: Handle> BTreeSet<T, A> {
         ensures moved { OnSome result (count.old.moves < count.new.moves) }
         ensures fewest { HasFewestMoves self.old self.new count.old count.new }
         ensures bounded { IsBounded (length (items self.old)) count.old count.new }
+        ensures blocks { blocks_in self.new ≤ blocks_in self.old }
     {
         match self.map.pop_first_counted(count) {
             Some((item, _nothing)) => Some(item),
@@ -78,6 +80,7 @@ impl<T: Ord + Drop, A: Handle> BTreeSet<T, A> {
         ensures moved { OnSome result (count.old.moves < count.new.moves) }
         ensures fewest { HasFewestMoves self.old self.new count.old count.new }
         ensures bounded { IsBounded (length (items self.old)) count.old count.new }
+        ensures blocks { blocks_in self.new ≤ blocks_in self.old }
     {
         match self.map.pop_last_counted(count) {
             Some((item, _nothing)) => Some(item),

@@ -4,7 +4,8 @@ use Rattle.fc_tree_node.proofs.MeasureFacts.{fewer_nodes}
 use Rattle.std.proofs.lemmas.Result.{err_from_is_err_and}
 use Rattle.fc_base.specs.Copies.{MayRefusePair}
 use Rattle.fc_tree_copy.specs.Copy.{AreSame}
-use Rattle.fc_tree_copy.proofs.BlockFacts.{all_blocks, blocks_are, one_more, few_blocks}
+use Rattle.fc_tree_node.proofs.BlockFacts.{all_blocks, blocks_are}
+use Rattle.fc_tree_copy.proofs.BlockFacts.{one_more, few_blocks}
 use Rattle.fc_tree_copy.proofs.CopyFacts.{inner_copy, children_copied, child_copied, tree_copied, refused_own, refused_below}
 use Rattle.fc_tree_copy.proofs.copy.+try_copy.Goals as goal
 

@@ -1,9 +1,9 @@
 use Rattle.std.proofs.Common.{◌≡◌, ◌+◌, length, take}
 use Rattle.fc_tree_node.specs.Node.{children_of}
 use Rattle.fc_tree_node.specs.Measures.{nodes_of}
-use Rattle.fc_tree_copy.specs.Blocks.{blocks_alone}
+use Rattle.fc_tree_node.specs.Blocks.{blocks_alone}
 use Rattle.fc_tree_copy.specs.Copy.{AreSame, IsCopyUpTo}
-use Rattle.fc_tree_copy.proofs.BlockFacts.{all_blocks}
+use Rattle.fc_tree_node.proofs.BlockFacts.{all_blocks}
 use Rattle.fc_tree_copy.proofs.copy.+try_copy.Given as goal
 
 abbrev pub decreases-try_copy : goal.decreases-try_copy

@@ -9,6 +9,7 @@ use Rattle.fc_tree_node.proofs.Made.{own_made}
 use Rattle.fc_tree_node.proofs.Lent.{lent_is, replaced, replaced_levels}
 use Rattle.fc_tree_insertion.proofs.InsertedPairs.{put_in_leaf, put_below, put_above}
 use Rattle.fc_tree_insertion.proofs.InsertedLevels.{levelled_put, grown}
+use Rattle.fc_tree_insertion.proofs.InsertedBlocks.{leaf_blocks, below_blocks, above_blocks}
 use Rattle.fc_tree_insertion.proofs.Cascades.{IsCascadeStep, cascade_step, leaf_passed, above_halved, above_used, above_moves}
 use Rattle.fc_tree_insertion.proofs.NewPairs.{led_below, led_above, led_leaf}
 use Rattle.fc_tree_insertion.proofs.insertion.+insert_below.Given as given
@@ -31,6 +32,11 @@ returns-then-path-eq1-clause-led g t c =
     let w = subst (λ p. IsPath p c.args.node.now) o c.requires.path in
     let i = c.put_leaf.ensures in
     led_leaf c.args.path.now _ c.put_leaf.new.node c.put_leaf.result c.args.pair o l.1 i.leaf.0 i.leaf.1 w.0 i.pairs i.halved i.left
+
+pub returns-then-path-eq1-clause-blocks : goal.returns-then-path-eq1-clause-blocks
+returns-then-path-eq1-clause-blocks g t c =
+    let i = c.put_leaf.ensures in
+    leaf_blocks c.args.path.now _ c.put_leaf.new.node c.put_leaf.result (one_step _ c.if-path-eq1.true) c.requires.levels i.leaf.0 i.leaf.1 i.halved
 
 pub child_in-child-requires : goal.child_in-child-requires
 child_in-child-requires g t c = let s = step_of c.args.path.now c.args.node.now (omega arith) c.requires.path c.requires.levels in omega (arith, s.inner, s.le)
@@ -80,6 +86,7 @@ returns-in-None g t c =
       size = omega (arith, m.size);
       halved = omega arith;
       used = omega arith;
+      blocks = below_blocks c.args.path.now c.args.node.now _ _ d k m e.halved e.blocks;
       comparisons = search rules;
       moves = omega arith;
       moved = search rules;
@@ -110,6 +117,8 @@ returns-in-Some g t c =
       size = grown c.put_inner.new.node up _ (ap length i.pairs ∙ length-insert _ _ c.in-Some.up (omega (arith, m.size)) ∙ ap (λ n. n + 1) m.size) i.size;
       halved = above_halved up k e.halved h;
       used = above_used up _ _ _ k e.halved h c.insert_below-below.ensures.used i.used;
+      blocks = above_blocks c.args.path.now c.args.node.now _ c.put_inner.new.node _ d c.in-Some.right up (omega arith) k m i.children i.inner.0 i.inner.1
+          e.halved h e.blocks;
       comparisons = search rules;
       moves = above_moves up _ _ _ k e.halved h e.moves i.moves;
       moved = search rules;

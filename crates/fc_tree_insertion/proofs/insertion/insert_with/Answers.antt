@@ -1,5 +1,6 @@
 use Rattle.std.proofs.Common.{◌≡◌, suc, ◌-◌, length, ap, subst, ◌∙◌, arith}
 use Rattle.fc_tree_node.specs.Node.{IsLevelled}
+use Rattle.fc_tree_node.proofs.BlockFacts.{all_blocks, blocks_inner}
 use Rattle.fc_tree_insertion.proofs.NewPairs.{put_same, put_higher}
 use Rattle.fc_tree_insertion.proofs.InsertedLevels.{levelled_root}
 use Rattle.fc_tree_insertion.proofs.InsertedPairs.{put_root}
@@ -35,6 +36,19 @@ pub returns-in-None-clause-moves : goal.returns-in-None-clause-moves
 returns-in-None-clause-moves g c =
     let e = moves_part c.args.path.now c.args.root.now (omega (arith, c.in-None.ensures.halved)) in
     omega (arith, c.in-None.ensures.moves)
+
+pub returns-in-None-clause-blocks : goal.returns-in-None-clause-blocks
+returns-in-None-clause-blocks g c =
+    let e = needed_part c.args.path.now c.args.root.now (omega (arith, c.in-None.ensures.halved)) in
+    rw e c.in-None.ensures.blocks
+
+pub returns-in-Some-clause-blocks : goal.returns-in-Some-clause-blocks
+returns-in-Some-clause-blocks g c =
+    let e = needed_whole c.args.path.now c.args.root.now (omega (arith, c.in-Some.ensures.halved)) in
+    let two = ap all_blocks c.grow.ensures.children in
+    let some = ap length c.grow.ensures.children in
+    let root = blocks_inner c.grow.new.root (omega (arith, some)) in
+    rw e (omega (arith, two, root, c.in-Some.ensures.blocks, c.in-Some.ensures.halved, c.requires.some))
 
 pub returns-in-Some-clause-pairs : goal.returns-in-Some-clause-pairs
 returns-in-Some-clause-pairs g c =

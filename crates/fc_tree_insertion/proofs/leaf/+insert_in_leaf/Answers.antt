@@ -4,12 +4,13 @@ use Rattle.fc_tree_node.specs.Node.{own_pairs, child_at, IsLevelled}
 use Rattle.fc_tree_node.specs.Path.{IsPath}
 use Rattle.fc_tree_node.specs.Place.{node_at}
 use Rattle.fc_tree_node.proofs.PathSteps.{IsStep, step_of}
+use Rattle.fc_tree_node.proofs.BlockFacts.{replaced_blocks}
 use Rattle.fc_tree_node.proofs.Pairs.{child_below}
 use Rattle.fc_tree_node.proofs.Lent.{lent_is, replaced, replaced_levels}
 use Rattle.fc_tree_insertion.proofs.InsertedPairs.{put_below}
 use Rattle.fc_tree_insertion.proofs.NewPairs.{put_in_room_below}
 use Rattle.fc_tree_insertion.proofs.Leaves.{leaf_below}
-use Rattle.fc_tree_insertion.proofs.LentLeaves.{HasRoomAt, room_at, put_last, levels_last, size_last}
+use Rattle.fc_tree_insertion.proofs.LentLeaves.{HasRoomAt, room_at, put_last, levels_last, size_last, blocks_last}
 use Rattle.fc_tree_insertion.proofs.leaf.+insert_in_leaf.Given as given
 use Rattle.fc_tree_insertion.proofs.leaf.+insert_in_leaf.Goals as goal
 use Rattle.fc_tree_insertion.proofs.leaf.+insert_in_leaf.Goals.{Start, After-child_in-child, After-insert}
@@ -44,6 +45,12 @@ insert_in_leaf-requires g t c κs within =
         ),
       ),
     )
+
+pub returns-then-path-gt-MAX_STEPS-clause-blocks : goal.returns-then-path-gt-MAX_STEPS-clause-blocks
+returns-then-path-gt-MAX_STEPS-clause-blocks g t c =
+    let d = down g t (goal.at.returns-then-path-gt-MAX_STEPS-clause-blocks g t c).After-child_in-child in
+    let m = replaced_blocks c.args.node.now _ _ c.insert_in_leaf.new.node _ (omega (arith, d.0.inner, d.0.le)) (replaced _ _ _) d.1 in
+    omega (arith, m, c.insert_in_leaf.ensures.blocks)
 
 pub returns-then-path-gt-MAX_STEPS-clause-pairs : goal.returns-then-path-gt-MAX_STEPS-clause-pairs
 returns-then-path-gt-MAX_STEPS-clause-pairs g t c =
@@ -100,6 +107,11 @@ pub returns-clause-levels : goal.returns-clause-levels
 returns-clause-levels g t c =
     let at = goal.at.returns-clause-levels g t c in
     levels_last c.args.path.now _ c.args.node.now _ c.args.pair (omega arith) (end g t at.Start) (put g t at.After-insert)
+
+pub returns-clause-blocks : goal.returns-clause-blocks
+returns-clause-blocks g t c =
+    let at = goal.at.returns-clause-blocks g t c in
+    blocks_last c.args.path.now _ c.args.node.now _ c.args.pair (omega arith) (end g t at.Start) (put g t at.After-insert)
 
 pub returns-clause-size : goal.returns-clause-size
 returns-clause-size g t c =

@@ -4,6 +4,8 @@ use Rattle.fc_tree_node.specs.Node.{pairs_of, IsLevelled, IsSound}
 use Rattle.fc_tree_node.proofs.Lent.{above, IsLent, replaced}
 use Rattle.fc_tree_removal.proofs.Removed.{leaf_shrunk, none_leaf, lent_sound, sound, lent_short, lent_lost, lent_rebalanced}
 use Rattle.fc_tree_removal.proofs.Removed.{last_removed, last_taken, fewer_last}
+use Rattle.fc_tree_node.proofs.BlockFacts.{blocks_leaf}
+use Rattle.fc_tree_removal.proofs.RemovedBlocks.{lent_blocks}
 use Rattle.fc_tree_removal.proofs.first_last.+remove_last.Given as given
 use Rattle.fc_tree_removal.proofs.first_last.+remove_last.Goals as goal
 use Rattle.fc_tree_removal.proofs.first_last.+remove_last.Goals.{After-child_in}
@@ -68,3 +70,13 @@ returns-clause-fewest g t c h s lost =
     let x = c.remove_last-pair.ensures.fewest l.below (sound l) came.0 in
     let y = c.rebalance_child.ensures.least came.1 in
     omega arith
+
+pub returns-then-is_leaf-clause-blocks : goal.returns-then-is_leaf-clause-blocks
+returns-then-is_leaf-clause-blocks g t c =
+    omega (arith, blocks_leaf c.args.node.now (c.if-is_leaf.ensures.0 refl), blocks_leaf c.remove_leaf.new.self c.remove_leaf.ensures.leaf)
+
+pub returns-clause-blocks : goal.returns-clause-blocks
+returns-clause-blocks g t c =
+    let l = child g t (goal.at.returns-clause-blocks g t c).After-child_in _ c.requires.sound.1.1 in
+    let b = lent_blocks c.args.node.now _ _ _ c.len-end.result l.inner l.place (replaced _ _ _) l.is c.remove_last-pair.ensures.blocks in
+    omega (arith, b, c.rebalance_child.ensures.blocks)

@@ -23,3 +23,9 @@ pub returns-clause-fewest : goal.returns-clause-fewest
 returns-clause-fewest g c h s other =
     fewest_gone c.args.tree.now c.in-Some.root _ c.args.count.now c.remove_first-pair.new.count c.in-Some.is
     c.remove_first-pair.ensures.fewest (omega arith) h s
+
+pub returns-then-len-gt0-clause-blocks : goal.returns-then-len-gt0-clause-blocks
+returns-then-len-gt0-clause-blocks g c = rw c.in-Some.is c.remove_first-pair.ensures.blocks
+
+pub returns-clause-blocks : goal.returns-clause-blocks
+returns-clause-blocks g c = rw c.in-Some.is (omega (arith, c.take_empty_root.ensures.blocks, c.remove_first-pair.ensures.blocks))

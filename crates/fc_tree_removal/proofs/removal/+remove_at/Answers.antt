@@ -2,6 +2,7 @@ use Rattle.std.proofs.Common.{ℕ, get_or, ◌∙◌, arith}
 use Rattle.fc_tree_node.specs.Node.{IsLevelled, IsSound}
 use Rattle.fc_tree_node.proofs.Lent.{IsLent, replaced}
 use Rattle.fc_tree_removal.proofs.Removed.{lent_onward, sound, lent_short, lent_lost, lent_rebalanced, IsPlaceStep, place_step, below_removed}
+use Rattle.fc_tree_removal.proofs.RemovedBlocks.{lent_blocks}
 use Rattle.fc_tree_removal.proofs.removal.+remove_at.Given as given
 use Rattle.fc_tree_removal.proofs.removal.+remove_at.Goals as goal
 use Rattle.fc_tree_removal.proofs.removal.+remove_at.Goals.{After-child_in}
@@ -46,3 +47,9 @@ returns-clause-fewest g t c h s lost =
     let x = c.remove_at-pair.ensures.fewest l.below (sound l) came.0 in
     let y = c.rebalance_child.ensures.least came.1 in
     omega arith
+
+pub returns-clause-blocks : goal.returns-clause-blocks
+returns-clause-blocks g t c =
+    let l = child g t (goal.at.returns-clause-blocks g t c).After-child_in _ c.requires.sound.1.1 in
+    let b = lent_blocks c.args.node.now _ _ _ (get_or c.args.path.now 0 0) l.inner l.place (replaced _ _ _) l.is c.remove_at-pair.ensures.blocks in
+    omega (arith, b, c.rebalance_child.ensures.blocks)

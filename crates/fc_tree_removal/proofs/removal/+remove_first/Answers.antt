@@ -3,6 +3,8 @@ use Rattle.std.proofs.lemmas.Bool.{false≢true}
 use Rattle.fc_tree_node.specs.Node.{IsLevelled, IsSound}
 use Rattle.fc_tree_node.proofs.Lent.{above, IsLent, replaced}
 use Rattle.fc_tree_removal.proofs.Removed.{none_leaf, lent_sound, sound, lent_short, lent_lost, lent_rebalanced, first_removed}
+use Rattle.fc_tree_node.proofs.BlockFacts.{blocks_leaf}
+use Rattle.fc_tree_removal.proofs.RemovedBlocks.{lent_blocks}
 use Rattle.fc_tree_removal.proofs.removal.+remove_first.Given as given
 use Rattle.fc_tree_removal.proofs.removal.+remove_first.Goals as goal
 use Rattle.fc_tree_removal.proofs.removal.+remove_first.Goals.{After-child_in}
@@ -48,3 +50,13 @@ returns-clause-fewest g t c h s lost =
     let x = c.remove_first-pair.ensures.fewest l.below (sound l) came.0 in
     let y = c.rebalance_child.ensures.least came.1 in
     omega arith
+
+pub returns-then-is_leaf-clause-blocks : goal.returns-then-is_leaf-clause-blocks
+returns-then-is_leaf-clause-blocks g t c =
+    omega (arith, blocks_leaf c.args.node.now (c.if-is_leaf.ensures.0 refl), blocks_leaf c.remove_leaf.new.self c.remove_leaf.ensures.leaf)
+
+pub returns-clause-blocks : goal.returns-clause-blocks
+returns-clause-blocks g t c =
+    let l = child g t (goal.at.returns-clause-blocks g t c).After-child_in _ c.requires.sound.1.1 in
+    let b = lent_blocks c.args.node.now _ _ _ 0 l.inner l.place (replaced _ _ _) l.is c.remove_first-pair.ensures.blocks in
+    omega (arith, b, c.rebalance_child.ensures.blocks)

@@ -5,6 +5,7 @@ use Rattle.fc_tree_node.specs.Node.{own_pairs, child_at}
 use Rattle.fc_tree_removal.specs.Rebalancing.{together, IsShortAt}
 use Rattle.fc_tree_removal.proofs.Rebalanced.{IsPairAt, pair_short, pair_alike, merged_rebalanced, stolen_rebalanced}
 use Rattle.fc_tree_node.proofs.Sizes.{level_size}
+use Rattle.fc_tree_removal.proofs.RemovedBlocks.{merged_blocks, shared_blocks}
 use Rattle.fc_tree_removal.proofs.removal.rebalance_short.Given as given
 use Rattle.fc_tree_removal.proofs.removal.rebalance_short.Goals as goal
 use Rattle.fc_tree_removal.proofs.removal.rebalance_short.Goals.{After-saturating_sub-place, After-len-2}
@@ -91,3 +92,21 @@ pub returns-else-index-gt0-clause-least : goal.returns-else-index-gt0-clause-lea
 returns-else-index-gt0-clause-least g c =
     let p = siblings g (goal.at.returns-else-index-gt0-clause-least g c).After-saturating_sub-place _ c.requires.at.1 in
     omega arith
+
+pub returns-then-len-lt-CAPACITY-clause-blocks : goal.returns-then-len-lt-CAPACITY-clause-blocks
+returns-then-len-lt-CAPACITY-clause-blocks g c =
+    let p = siblings g (goal.at.returns-then-len-lt-CAPACITY-clause-blocks g c).After-saturating_sub-place _ c.requires.at.1 in
+    let shrunk = returns-then-len-lt-CAPACITY-clause-levels g c _ c.requires.at.1 in
+    merged_blocks _ _ _ p.inner shrunk.0.1 p.in_bounds c.merge.ensures.merged
+
+pub returns-then-index-gt0-clause-blocks : goal.returns-then-index-gt0-clause-blocks
+returns-then-index-gt0-clause-blocks g c =
+    let p = siblings g (goal.at.returns-then-index-gt0-clause-blocks g c).After-saturating_sub-place _ c.requires.at.1 in
+    let shrunk = returns-then-index-gt0-clause-levels g c _ c.requires.at.1 in
+    shared_blocks _ _ _ _ p.inner shrunk.0.1 p.in_bounds (pair_alike _ _ _ p) c.steal_left.ensures.shared
+
+pub returns-else-index-gt0-clause-blocks : goal.returns-else-index-gt0-clause-blocks
+returns-else-index-gt0-clause-blocks g c =
+    let p = siblings g (goal.at.returns-else-index-gt0-clause-blocks g c).After-saturating_sub-place _ c.requires.at.1 in
+    let shrunk = returns-else-index-gt0-clause-levels g c _ c.requires.at.1 in
+    shared_blocks _ _ _ _ p.inner shrunk.0.1 p.in_bounds (pair_alike _ _ _ p) c.steal_right.ensures.shared

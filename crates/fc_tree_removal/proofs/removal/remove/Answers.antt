@@ -40,3 +40,12 @@ pub returns-then-is_spared-clause-fewest : goal.returns-then-is_spared-clause-fe
 returns-then-is_spared-clause-fewest g c =
     fewest_kept c.args.tree.now c.in-Some.root _ c.args.count.now c.remove_spared.new.count c.in-Some.is
     c.remove_spared.ensures.levels c.remove_spared.ensures.fewest
+
+pub returns-then-is_spared-clause-blocks : goal.returns-then-is_spared-clause-blocks
+returns-then-is_spared-clause-blocks g c = rw c.in-Some.is c.remove_spared.ensures.blocks
+
+pub returns-then-len-gt0-clause-blocks : goal.returns-then-len-gt0-clause-blocks
+returns-then-len-gt0-clause-blocks g c = rw c.in-Some.is c.remove_at-pair.ensures.blocks
+
+pub returns-clause-blocks : goal.returns-clause-blocks
+returns-clause-blocks g c = rw c.in-Some.is (omega (arith, c.take_empty_root.ensures.blocks, c.remove_at-pair.ensures.blocks))

@@ -1,9 +1,11 @@
-use Rattle.std.proofs.Common.{refl, ℕ, ◌+◌, ◌∙◌, arith}
+use Rattle.std.proofs.Common.{refl, ◌≡◌, ℕ, ◌+◌, length, ◌∙◌, arith}
 use Rattle.std.proofs.lemmas.Bool.{false≢true}
-use Rattle.fc_tree_node.specs.Node.{IsLevelled, IsSound}
+use Rattle.fc_tree_node.specs.Node.{own_pairs, children_of, IsLevelled, IsSound}
 use Rattle.fc_tree_node.proofs.Lent.{above, IsLent, replaced}
 use Rattle.fc_tree_removal.proofs.Removed.{leaf_shrunk, none_leaf, get_there, lent_sound, sound, IsOwnSet, own_set}
 use Rattle.fc_tree_removal.proofs.Removed.{own_short, own_lost, own_rebalanced, own_replaced}
+use Rattle.fc_tree_node.proofs.BlockFacts.{blocks_leaf}
+use Rattle.fc_tree_removal.proofs.RemovedBlocks.{lent_blocks, kept_blocks}
 use Rattle.fc_tree_removal.proofs.removal.remove_own.Given as given
 use Rattle.fc_tree_removal.proofs.removal.remove_own.Goals as goal
 use Rattle.fc_tree_removal.proofs.removal.remove_own.Goals.{After-child_in, After-replace_pair-pair}
@@ -75,3 +77,16 @@ returns-clause-fewest g c h s lost =
     let x = c.remove_first-next.ensures.fewest l.below (sound l) came.0 in
     let y = c.rebalance_child.ensures.least came.1 in
     omega arith
+
+pub returns-then-is_leaf-clause-blocks : goal.returns-then-is_leaf-clause-blocks
+returns-then-is_leaf-clause-blocks g c =
+    omega (arith, blocks_leaf c.args.node.now (c.if-is_leaf.ensures.0 refl), blocks_leaf c.remove_leaf.new.self c.remove_leaf.ensures.leaf)
+
+pub returns-clause-blocks : goal.returns-clause-blocks
+returns-clause-blocks g c =
+    let l = next g (goal.at.returns-clause-blocks g c).After-child_in _ c.requires.sound.1.1 in
+    let b = lent_blocks c.args.node.now _ _ _ (c.args.index + 1) l.inner l.place (replaced _ _ _) l.is c.remove_first-next.ensures.blocks in
+    let some : length (children_of c.args.node.now) ≡ length (own_pairs c.args.node.now) + 1 = l.inner in
+    let m = replaced c.args.node.now (c.args.index + 1) c.remove_first-next.new.node in
+    let kept = kept_blocks _ c.replace_pair-pair.new.self (omega (arith, some, m.many)) c.replace_pair-pair.ensures.children in
+    omega (arith, b, kept, c.rebalance_child.ensures.blocks)

@@ -3,7 +3,7 @@ use Rattle.std.specs.List.{remove}
 use Rattle.fc_tree_node.specs.Node.{own_pairs}
 use Rattle.fc_tree_node.specs.Place.{node_at}
 use Rattle.fc_tree_node.proofs.Lists.{length_take}
-use Rattle.fc_tree_removal.proofs.Spared.{spared_at, place_some, pair_out, pairs_out, shrunk_out, some_out, lost_out, fits_out}
+use Rattle.fc_tree_removal.proofs.Spared.{spared_at, place_some, pair_out, pairs_out, shrunk_out, some_out, lost_out, fits_out, blocks_out}
 use Rattle.fc_tree_removal.proofs.removal.remove_spared.Goals as goal
 
 pub pairs_mut-requires : goal.pairs_mut-requires
@@ -48,4 +48,5 @@ returns g c =
       moved = omega (arith, moves, same, s.place);
       fewest = λ k o lost. let z = lost_out path last n ps e s is k o.1 lost in omega (arith, moves, same, s.place);
       comparisons = c.remove.ensures.comparisons;
+      blocks = let b = blocks_out path last n ps e s is in omega (arith, b);
     }

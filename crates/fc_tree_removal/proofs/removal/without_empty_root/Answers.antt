@@ -1,6 +1,7 @@
 use Rattle.std.proofs.Common.{arith}
 use Rattle.fc_tree_node.proofs.Heir.{levelled_formed, heir_pairs}
 use Rattle.fc_tree_removal.proofs.Removed.{heir_left}
+use Rattle.fc_tree_removal.proofs.RemovedBlocks.{heir_blocks}
 use Rattle.fc_tree_removal.proofs.removal.without_empty_root.Goals as goal
 
 pub into_only_child-requires-clause-formed : goal.into_only_child-requires-clause-formed
@@ -11,3 +12,6 @@ returns-clause-pairs g c = heir_pairs c.into_only_child.result c.args.root (omeg
 
 pub returns-clause-levels : goal.returns-clause-levels
 returns-clause-levels g c h l = heir_left c.into_only_child.result h c.args.root c.into_only_child.ensures l
+
+pub returns-clause-blocks : goal.returns-clause-blocks
+returns-clause-blocks g c = heir_blocks c.into_only_child.result c.args.root c.into_only_child.ensures

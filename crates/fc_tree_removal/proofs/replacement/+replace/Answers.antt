@@ -3,6 +3,7 @@ use Rattle.fc_tree_node.specs.Node.{IsLevelled, IsSound}
 use Rattle.fc_tree_node.proofs.Lent.{IsLent, replaced, replaced_levels}
 use Rattle.fc_tree_removal.proofs.Removed.{lent_onward, IsPlaceStep, place_step}
 use Rattle.fc_tree_removal.proofs.Replaced.{below_pairs}
+use Rattle.fc_tree_node.proofs.BlockFacts.{replaced_blocks}
 use Rattle.fc_tree_removal.proofs.replacement.+replace.Given as given
 use Rattle.fc_tree_removal.proofs.replacement.+replace.Goals as goal
 use Rattle.fc_tree_removal.proofs.replacement.+replace.Goals.{After-child_in}
@@ -27,3 +28,10 @@ pub returns-clause-levels : goal.returns-clause-levels
 returns-clause-levels g t c h l =
     let a = child g t (goal.at.returns-clause-levels g t c).After-child_in h l in
     rw a.height (replaced_levels a.below (replaced _ _ _) a.levels (omega arith, c.replace.ensures.levels a.below a.child.1))
+
+pub returns-clause-blocks : goal.returns-clause-blocks
+returns-clause-blocks g t c =
+    let p = (goal.at.returns-clause-blocks g t c).After-child_in in
+    let l = child g t p _ c.requires.levels.1 in
+    let b = replaced_blocks c.args.node.now _ c.child_in.result.now c.replace.new.node (get_or c.args.path.now 0 0) (step g t p).child (replaced _ _ _) l.is in
+    omega (arith, b, c.replace.ensures.blocks)

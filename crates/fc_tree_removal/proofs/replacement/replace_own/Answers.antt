@@ -1,5 +1,6 @@
 use Rattle.fc_tree_removal.proofs.Removed.{get_there}
 use Rattle.fc_tree_removal.proofs.Replaced.{set_size, set_levels, set_pairs}
+use Rattle.fc_tree_removal.proofs.RemovedBlocks.{set_blocks}
 use Rattle.fc_tree_removal.proofs.replacement.replace_own.Goals as goal
 
 pub returns-clause-old : goal.returns-clause-old
@@ -20,3 +21,8 @@ pub returns-clause-levels : goal.returns-clause-levels
 returns-clause-levels g c h l =
     let r = c.replace_pair.ensures in
     set_levels h _ _ c.args.index c.args.pair (record { pairs = r.pairs; children = r.children; leaf = r.leaf }) l
+
+pub returns-clause-blocks : goal.returns-clause-blocks
+returns-clause-blocks g c =
+    let r = c.replace_pair.ensures in
+    set_blocks c.requires.levels.0 _ _ c.args.index c.args.pair (record { pairs = r.pairs; children = r.children; leaf = r.leaf }) c.requires.levels.1

@@ -31,3 +31,6 @@ returns-clause-put g c =
 
 pub returns-clause-ascending : goal.returns-clause-ascending
 returns-clause-ascending g c = (invariant_of-self g c).0
+
+pub returns-clause-blocks : goal.returns-clause-blocks
+returns-clause-blocks g c = rw (← c.self.view_is) (rw c.in-Some.is c.exchange.ensures.blocks)

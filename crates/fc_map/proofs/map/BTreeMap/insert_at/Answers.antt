@@ -8,3 +8,10 @@ returns-then-self-lt18446744073709551615-clause-requests g c =
     (rw c.if-has_room.true at c.requires.room)
     in
     omega (arith, none)
+
+pub returns-then-self-lt18446744073709551615-clause-blocks : goal.returns-then-self-lt18446744073709551615-clause-blocks
+returns-then-self-lt18446744073709551615-clause-blocks g c =
+    let none = room_asks_none g.K.Ord.cmp c.args.key c.args.self.now c.args.path.now (rw (← c.self.view_is) c.self.invariant.1) c.requires.gap
+    (rw c.if-has_room.true at c.requires.room)
+    in
+    omega (arith, none, c.insert_in_room.ensures.blocks)

@@ -55,3 +55,6 @@ returns-in_err-try_insert-clause-room g c = λ unfull.
     let most : c.try_insert.new.asked.requests ≤ c.args.asked.now.requests + requests_at c.args.self.now c.args.path.now =
     rw (← c.self.view_is) (rw c.in-Some.is c.try_insert.ensures.at_most) in
     omega (arith, none, most)
+
+pub returns-clause-blocks : goal.returns-clause-blocks
+returns-clause-blocks g c = rw (← c.self.view_is) (rw c.in-Some.is c.in_ok-try_insert.ensures.blocks)

@@ -43,3 +43,6 @@ pub returns-clause-length : goal.returns-clause-length
 returns-clause-length g c =
     let len : c.self.inside.len + 1 ≡ length (pairs_of c.insert_in_leaf.new.node) = (invariant_of-self g c).2 in
     rw (← c.self.view_is) (omega (arith, len, c.self.invariant.2))
+
+pub returns-clause-blocks : goal.returns-clause-blocks
+returns-clause-blocks g c = rw (← c.self.view_is) (rw c.in-Some.is c.insert_in_leaf.ensures.blocks)

@@ -24,3 +24,6 @@ returns-clause-bounded g c =
 pub returns-clause-fewest : goal.returns-clause-fewest
 returns-clause-fewest g c =
     subst (λ m. HasFewestMoves m c.take_first-pair.new.tree c.args.count.now c.take_first-pair.new.count) c.self.view_is c.take_first-pair.ensures.fewest
+
+pub returns-clause-blocks : goal.returns-clause-blocks
+returns-clause-blocks g c = rw (← c.self.view_is) c.take_first-pair.ensures.blocks

@@ -26,3 +26,6 @@ returns-clause-bounded g c =
 pub returns-clause-fewest : goal.returns-clause-fewest
 returns-clause-fewest g c =
     subst (λ m. HasFewestMoves m c.take_last-pair.new.tree c.args.count.now c.take_last-pair.new.count) c.self.view_is c.take_last-pair.ensures.fewest
+
+pub returns-clause-blocks : goal.returns-clause-blocks
+returns-clause-blocks g c = rw (← c.self.view_is) c.take_last-pair.ensures.blocks

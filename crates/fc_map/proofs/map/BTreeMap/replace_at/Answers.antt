@@ -18,3 +18,7 @@ returns-clause-length g c = (replaced g.K.Ord.cmp c.args.key.now c.args.self.now
 
 pub returns-clause-sound : goal.returns-clause-sound
 returns-clause-sound g c = (replaced g.K.Ord.cmp c.args.key.now c.args.self.now c.args.path.now c.replace.new.dest c.requires.sound c.requires.held).sound
+
+pub returns-clause-blocks : goal.returns-clause-blocks
+returns-clause-blocks g c =
+    (replaced g.K.Ord.cmp c.args.key.now c.args.self.now c.args.path.now c.replace.new.dest c.requires.sound c.requires.held).blocks_is

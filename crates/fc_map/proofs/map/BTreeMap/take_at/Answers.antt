@@ -67,3 +67,6 @@ returns-clause-sound g c = (invariant_of-self g c).1
 pub returns-clause-fewest : goal.returns-clause-fewest
 returns-clause-fewest g c =
     subst (λ m. HasFewestMoves m c.remove-pair.new.tree c.args.count.now c.remove-pair.new.count) c.self.view_is c.remove-pair.ensures.fewest
+
+pub returns-clause-blocks : goal.returns-clause-blocks
+returns-clause-blocks g c = rw (← c.self.view_is) c.remove-pair.ensures.blocks
