@@ -22,7 +22,7 @@ TICKS = os.sysconf("SC_CLK_TCK")
 KINDS = ("proof", "tests", "seed", "edits")
 PAGE, USING = pathlib.Path("docs/GATE.md"), pathlib.Path("docs/USING.md")
 # How many functions docs/GATE.md names.
-DEAREST = 40
+DEAREST = 60
 # Of Linux: a process whose parent ends becomes a child of this one, so that its ancestors still lead here.
 PR_SET_CHILD_SUBREAPER = 36
 
