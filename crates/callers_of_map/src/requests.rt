@@ -69,6 +69,18 @@ pub fn put_and_take(
     Ok(())
 }
 
+/// Cuts a map in two and puts both together again: the map then has no more blocks than it had and asked for.
+pub fn cut_and_join(
+    map: &mut BTreeMap<u64, u64>,
+    key: u64,
+    asked: &mut Asked,
+) -> Result<(), TryReserveError>
+    ensures held { OnOk result (asked.old.requests + blocks_in map.new ≤ asked.new.requests + blocks_in map.old) }
+{
+    let mut rest = map.split_off_asked(&key, asked)?;
+    map.append_asked(&mut rest, &mut Count::new(), asked)
+}
+
 /// Copies a map of fewer than a thousand pairs. Whether it is refused or not, at most 161 requests are made: one for each of at most 143 nodes, and one more for
 /// each of at most 18 that have children.
 pub fn copy_below_thousand(

@@ -39,6 +39,7 @@ pub use Rattle.fc_map.specs.Full.{IsFullAt, TakesNode}
 pub use Rattle.fc_map.specs.Requests.{requests_at, insertion_requests, HasFewRequests, border_requests, list_requests, IsFewestOver}
 pub use Rattle.fc_map.specs.Kept.{AreAllKept}
 pub use Rattle.fc_map.specs.WholeRequests.{given_requests, join_requests, blocks_in}
+pub use Rattle.fc_map.specs.Loads.{load_requests}
 pub use Rattle.fc_map.specs.Fewest.{fewest_moves, root_len, HasFewestMoves}
 pub use Rattle.fc_map.specs.Entry.{entry_map, entry_map_ref, entry_path, entry_key, entry_pair, entry_value, list_with, list_without, IsWritten, IsFirstOf, IsLastOf, IsFirstAfter, IsLastBefore, map_written, entry_lends_ok, occupied_lends, occupied_lends_whole, rests_if_none, rests_if_refused, entry_lends_ok_in, occupied_lends_in, occupied_lends_whole_in, rests_if_none_in, rests_if_refused_in}
 pub use Rattle.fc_map.specs.ReadyEntry.{ready_map_ref, ready_map, ready_key, ready_list_with, ready_lends, rests_if_not_ready, ready_lends_in, rests_if_not_ready_in}

@@ -24,5 +24,5 @@ pub use Rattle.fc_laws.proofs.OrderLaws.{tuple_less, tuple_equal, tuple_greater,
 pub use Rattle.fc_laws.proofs.OrderLaws.{number_total, number_less, number_equal, number_greater, number_at_most}
 pub use Rattle.fc_laws.proofs.OrderLaws.{number_at_least, number_tuple_less, number_tuple_equal}
 pub use Rattle.fc_laws.proofs.OrderLaws.{number_tuple_greater, number_tuple_at_most, number_tuple_at_least, number_tuple_total}
-pub use Rattle.fc_laws.proofs.RequestLaws.{requests_within}
+pub use Rattle.fc_laws.proofs.RequestLaws.{requests_within, load_within}
 pub use Rattle.fc_laws.proofs.RetainedLaws.{retained_is, staying_are}

@@ -4,6 +4,7 @@ use Rattle.std.proofs.Common.{append_assoc, append-nil, length-append, Bool, fal
 use Rattle.std.specs.Result.{IfOk, IfErr}
 use Rattle.std.specs.Prelude.{IfSome}
 use Rattle.std.proofs.lemmas.Bool.{iff_false}
+use Rattle.std.proofs.lemmas.List.{nil_from_length}
 use Rattle.std.specs.Cmp.{IsTotalOrder}
 use Rattle.std.specs.List.{AllByRecursion}
 use Rattle.std.specs.Ordering.{is_lt}
@@ -20,7 +21,7 @@ use Rattle.fc_tree_build.specs.Built.{Grown, IsAfterLast}
 use Rattle.fc_tree_build.proofs.Ends.{less_if, less_then}
 use Rattle.fc_tree_build.proofs.OrderedFacts.{after, put_after, ascending_after}
 use Rattle.fc_map.specs.Entries.{Map, entries}
-use Rattle.fc_map.specs.BulkInsert.{IsBulkInsert}
+use Rattle.fc_map.specs.BulkInsert.{Inserting, inserting, IsBulkInsert}
 
 module _ {K V : Type 0} (cmp : K → K → Ordering) where
   -- An item with a new key was refused, and what stands after it was not looked at.
@@ -134,10 +135,10 @@ module _ {K V : Type 0} (cmp : K → K → Ordering) (r : Result (Unit {0}) TryR
 
 module _ {K V : Type 0} where
   -- The pair came back, and all stay.
-  pub back_beside : (r : Option (K × V)) (t new : Grown K V) (m s : List (K × V)) (pair : K × V) → t.pairs ++ m ≡ s
-      → IfSome r (λ back. (back ≡ pair) × (new ≡ t)) → IfSome r (λ back. (back ≡ pair) × (new.pairs ++ m ≡ s))
+  pub back_beside : (r : Option (K × V)) (t new : Grown K V) (m : List (K × V)) (s : Inserting K V) (pair : K × V) → inserting t.pairs m ≡ s
+      → IfSome r (λ back. (back ≡ pair) × (new ≡ t)) → IfSome r (λ back. (back ≡ pair) × (inserting new.pairs m ≡ s))
   back_beside None t new m s pair e h = h
-  back_beside (Some x) t new m s pair e h = (h.0, ap (λ g. g.pairs ++ m) h.1 ∙ e)
+  back_beside (Some x) t new m s pair e h = (h.0, ap (λ g. inserting g.pairs m) h.1 ∙ e)
 
   -- Items are put into the map beside a tree of no pair, or come back.
   pub merged_beside : {E : Type 0} (cmp : K → K → Ordering) (r : Result (Unit {0}) E) (t m new s items : List (K × V)) → t ≡ [] → m ≡ s
@@ -145,7 +146,19 @@ module _ {K V : Type 0} where
   merged_beside cmp (Ok x) t m new s items none e h = ap (λ z. z ++ new) none ∙ h ∙ ap (λ z. extended cmp z items) e
   merged_beside cmp (Err b) t m new s items none e h = h
 
-  pub kept_beside : {E Z : Type 0} (P : E → Type 0) (r : Result (Unit {0}) E) (t : List (K × V)) (m new : Map K V Z) (s : List (K × V)) → t ++ entries m ≡ s
-      → IfErr r (λ b. (new ≡ m) × P b) → IfErr r (λ b. (t ++ entries new ≡ s) × P b)
+  pub kept_beside : {E Z : Type 0} (P : E → Type 0) (r : Result (Unit {0}) E) (t : List (K × V)) (m new : Map K V Z) (s : Inserting K V)
+      → inserting t (entries m) ≡ s → IfErr r (λ b. (new ≡ m) × P b) → IfErr r (λ b. (inserting t (entries new) ≡ s) × P b)
   kept_beside P (Ok x) t m new s e h = h
-  kept_beside P (Err b) t m new s e h = (ap (λ z. t ++ entries z) h.0 ∙ e, h.1)
+  kept_beside P (Err b) t m new s e h = (ap (λ z. inserting t (entries z)) h.0 ∙ e, h.1)
+
+  -- Where the map has no pair, all stand in the tree, and a key that is after all is after these.
+  pub after_in_tree : {Z : Type 0} (cmp : K → K → Ordering) (t now : Grown K V) (m : Map K V Z) (s : Inserting K V) (pair given : K × V) → now ≡ t
+      → given ≡ pair → inserting t.pairs (entries m) ≡ s → s.closed ≡ 0 → AllByRecursion (λ e. cmp e.0 pair.0 ≡ Less) s.pairs
+      → (entries m ≡ []) × AllByRecursion (λ e. cmp e.0 given.0 ≡ Less) now.pairs
+  after_in_tree cmp t now m s pair given is same e none all =
+      let no = nil_from_length (entries m) (ap (λ i. i.closed) e ∙ none) in
+      let tree = ap (λ g. g.pairs) is ∙ all_in_tree t.pairs (entries m) s.pairs (ap (λ i. i.pairs) e) no in (
+        no,
+        subst (λ q. AllByRecursion (λ e. cmp e.0 q.0 ≡ Less) now.pairs) (sym same)
+            (subst (λ l. AllByRecursion (λ e. cmp e.0 pair.0 ≡ Less) l) (sym tree) all),
+      )

@@ -20,3 +20,4 @@ pub mod RangeParts
 pub mod RangedFacts
 pub mod PopIfFacts
 pub mod RequestFacts
+pub mod OpenFacts

@@ -1,5 +1,5 @@
 -- What an insertion asks for, by the map's tree.
-use Rattle.std.proofs.Common.{◌≡◌, ℕ, ◌+◌, ◌≤◌, true, List, length, arith, refl, Some, None, inl, inr}
+use Rattle.std.proofs.Common.{◌≡◌, ℕ, ◌+◌, ◌≤◌, true, List, length, ap, arith, refl, Some, None, inl, inr}
 use Rattle.std.specs.declared.cmp.Ordering.{Ordering}
 use Rattle.std.proofs.lemmas.Bool.{cases_lt}
 use Rattle.fc_base.specs.declared.asked.Asked.{Asked}
@@ -9,6 +9,7 @@ use Rattle.fc_map.proofs.CountFacts.{some_pairs}
 use Rattle.fc_tree_insertion.specs.Cascade.{cascade}
 use Rattle.fc_tree_insertion.proofs.Cascades.{cascade_leaf, needed_few, needed_part, room_needs_none}
 use Rattle.fc_map.specs.Entries.{Map, entries, IsSoundMap}
+use Rattle.fc_map.specs.Kept.{blocks_in}
 use Rattle.fc_map.specs.Requests.{requests_at, border_requests, HasFewRequests}
 use Rattle.fc_map.specs.Full.{IsFullAt}
 use Rattle.fc_map.specs.Place.{IsOpenAt, TellsRoom}
@@ -43,10 +44,18 @@ module _ {K Q V Z : Type 0} (cmp : K → Q → Ordering) (k : Q) where
       (sound.0, omega (arith, deep), omega (arith, steps, most, at_most))
 
 module _ {K V Z : Type 0} where
-  -- A map without pairs has no tree that could be cut.
+  -- A map without pairs has no tree.
+  no_tree : (m : Map K V Z) → IsSoundMap m → length (entries m) ≡ 0 → m ≡ None
+  no_tree None sound none = refl
+  no_tree (Some root) sound none = absurd (let some = some_pairs sound.0 root sound.2 in omega (arith, some, none))
+
+  -- None that could be cut.
   pub none_cut : (m : Map K V Z) → IsSoundMap m → length (entries m) ≡ 0 → border_requests m ≡ 0
-  none_cut None sound none = refl
-  none_cut (Some root) sound none = absurd (let some = some_pairs sound.0 root sound.2 in omega (arith, some, none))
+  none_cut m sound none = ap border_requests (no_tree m sound none)
+
+  -- And no block.
+  pub no_blocks : (m : Map K V Z) → IsSoundMap m → length (entries m) ≡ 0 → blocks_in m ≡ 0
+  no_blocks m sound none = ap blocks_in (no_tree m sound none)
 
   -- A cut asks for a node a level.
   pub few_cut : (m : Map K V Z) → IsSoundMap m → (old new : Asked) → new.requests ≤ old.requests + border_requests m

@@ -19,6 +19,7 @@ pub mod Walks
 pub mod Stretches
 pub mod Compare
 pub mod CompareLaws
+pub mod Loads
 pub mod BulkInsert
 pub mod BulkLoad
 pub mod PopIf

@@ -30,6 +30,7 @@ mod into_iter;
 mod iter;
 mod iter_mut;
 mod lend;
+mod load_asked;
 mod made;
 mod merge;
 mod neighbours;

@@ -1,12 +1,14 @@
 -- A list of items extended by more, one after another, as the keys of pairs are.
-use Rattle.std.proofs.Common.{◌≡◌, List, [], ◌∷◌, ◌++◌, None, length, refl, sym, ap, subst, ◌∙◌}
+use Rattle.std.proofs.Common.{◌≡◌, ℕ, ◌+◌, ◌≤◌, List, [], ◌∷◌, ◌++◌, None, length, refl, sym, ap, subst, ◌∙◌}
 use Rattle.std.specs.declared.cmp.Ordering.{Ordering}
 use Rattle.fc_base.specs.declared.try_reserve_error.TryReserveError.{TryReserveError}
 use Rattle.fc_base.specs.Extended.{extended, IsExtendedUpTo}
 use Rattle.fc_base.specs.Growth.{MayGrowRefuse}
 use Rattle.fc_base.specs.OneKey.{put}
-use Rattle.fc_set.specs.Items.{item_at, with_item, extended_items, AreExtendedUpTo}
-use Rattle.fc_set.proofs.ItemFacts.{keys, keys_length, with_item_keys, keys_none}
+use Rattle.fc_base.specs.Ascending.{IsAscending}
+use Rattle.fc_tree_build.specs.Loads.{load_requests}
+use Rattle.fc_set.specs.Items.{item_at, with_item, extended_items, AreExtendedUpTo, AreAscending}
+use Rattle.fc_set.proofs.ItemFacts.{keys, keys_length, keys_ascend, with_item_keys, keys_none}
 
 module _ {T : Type 0} (cmp : T → T → Ordering) where
   more : (s given : List T) (x : T) → with_item cmp (extended_items cmp s given) x ≡ extended_items cmp s (given ++ x ∷ [])
@@ -70,3 +72,11 @@ module _ {T V : Type 0} where
         subst (λ l. AreExtendedUpTo cmp (keys old) l (keys new) e)
         (keys_both pairs (paired v rest) ∙ ap (λ l. l ++ keys (paired v rest)) is ∙ ap (λ l. items ++ l) (paired_keys v rest))
         (keys_up_to old (pairs ++ paired v rest) new e s)
+
+module _ {T V : Type 0} (cmp : T → T → Ordering) where
+  -- What so many pairs take at most where they ascend, their keys take.
+  pub few_of_keys : (pairs : List (T × V)) (items : List T) (first now : ℕ) → keys pairs ≡ items
+      → (IsAscending cmp pairs → now ≤ first + load_requests (length pairs)) → AreAscending cmp items → now ≤ first + load_requests (length items)
+  few_of_keys pairs items first now is few a =
+      let l = sym (keys_length pairs) ∙ ap length is in
+      subst (λ k. now ≤ first + load_requests k) l (few (keys_ascend cmp pairs (subst (AreAscending cmp) (sym is) a)))

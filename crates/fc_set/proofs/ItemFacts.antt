@@ -104,7 +104,7 @@ module _ {T V : Type 0} where
     ascending_keys [] a = tt
     ascending_keys (e ∷ s) a = (all_keys (λ y. cmp e.0 y ≡ Less) s a.0, ascending_keys s a.1)
 
-    keys_ascend : (s : List (T × V)) → AreAscending cmp (keys s) → IsAscending cmp s
+    pub keys_ascend : (s : List (T × V)) → AreAscending cmp (keys s) → IsAscending cmp s
     keys_ascend [] a = tt
     keys_ascend (e ∷ s) a = (all_of_keys (λ y. cmp e.0 y ≡ Less) s a.0, keys_ascend s a.1)
 

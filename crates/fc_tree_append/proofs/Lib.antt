@@ -5,3 +5,4 @@ pub mod UnderRoot
 pub mod Levels
 pub mod StableLaws
 pub mod MergedFacts
+pub mod JoinedBlocks

@@ -3,6 +3,7 @@ ghost use Rattle.std.specs.Prelude.{◌≡◌, ◌+◌, ◌<◌, ◌≤◌, ◌�
 ghost use Rattle.fc_base.specs.Ascending.{IsAscending};
 ghost use Rattle.fc_base.specs.Growth.{MayAppendRefuse};
 ghost use Rattle.fc_base.specs.Joined.{joined};
+ghost use Rattle.fc_tree_node.specs.Blocks.{blocks_in};
 ghost use Rattle.fc_tree_node.specs.Tree.{entries, IsSoundMap};
 ghost use Rattle.fc_tree_append.specs.Requests.{given_requests, join_requests};
 
@@ -52,7 +53,12 @@ pub fn try_append<K: Ord + Drop, V: Drop, A: Handle>(
     ensures no_request { (our_len ≡ 0) ⊎ (their_len ≡ 0) → asked.new.requests ≡ asked.old.requests }
     ensures requests_after { IfOk result (λ _. 0 < our_len → 0 < their_len → IsAscending K.cmp (entries ours.old ++ entries theirs.old) → asked.new.requests ≡ asked.old.requests + join_requests ours.old theirs.old) }
     ensures requests_merged { IfOk result (λ _. ¬ IsAscending K.cmp (entries ours.old ++ entries theirs.old) → asked.new.requests ≡ asked.old.requests + given_requests (our_len + their_len)) }
+    ensures at_most_after { IsAscending K.cmp (entries ours.old ++ entries theirs.old) → asked.new.requests ≤ asked.old.requests + join_requests ours.old theirs.old }
+    ensures at_most_merged { ¬ IsAscending K.cmp (entries ours.old ++ entries theirs.old) → asked.new.requests ≤ asked.old.requests + given_requests (our_len + their_len) }
     ensures at_most { asked.new.requests ≤ asked.old.requests + max (join_requests ours.old theirs.old) (given_requests (our_len + their_len)) }
+
+    // No block stands that neither was there nor was asked for.
+    ensures blocks { IfOk result (λ _. blocks_in ours.new + blocks_in theirs.new + asked.old.requests ≤ blocks_in ours.old + blocks_in theirs.old + asked.new.requests) }
 {
     if their_len == 0 {
         return Ok(our_len);

@@ -1,9 +1,10 @@
 //! A tree grafted on the border of a taller one, at its own level.
-ghost use Rattle.std.specs.Prelude.{◌≡◌, ℕ, suc, ◌+◌, ◌≤◌, length};
+ghost use Rattle.std.specs.Prelude.{◌≡◌, ℕ, suc, ◌+◌, ◌*◌, ◌≤◌, length};
 ghost use Rattle.fc_base.specs.Sizes.{min_len};
+ghost use Rattle.fc_tree_node.specs.Blocks.{blocks_of, blocks_in};
 ghost use Rattle.fc_tree_node.specs.Node.{own_pairs, pairs_of, IsLevelled};
 ghost use Rattle.fc_tree_node.specs.Tree.{entries, IsSoundWithin};
-ghost use Rattle.fc_tree_insertion.specs.Insertion.{spread};
+ghost use Rattle.fc_tree_insertion.specs.Insertion.{spread, blocks_after};
 ghost use Rattle.fc_tree_append.specs.Grafted.{beside, IsGrafted, IsPlacedBeside};
 
 use fc_base::{Count, Handle};
@@ -29,6 +30,7 @@ pub(crate) fn graft<K: Drop, V: Drop, A: Handle>(
     requires spares { depth + 1 ≤ spares }
     ensures pairs { entries result ≡ beside side (pairs_of root) pair (pairs_of other) }
     ensures levels { (h : ℕ) → IsLevelled (depth + h) root → IsLevelled h other → IsSoundWithin (suc (depth + h)) result }
+    ensures blocks { blocks_in result ≤ blocks_of root + blocks_of other + 2 * spares }
 {
     let mut root = root;
     let mut spares = spares;
@@ -58,6 +60,9 @@ fn graft_below<K: Drop, V: Drop, A: Handle>(
     ensures pairs { spread node.new result ≡ beside side (pairs_of node.old) pair (pairs_of other) }
     ensures levels { (h : ℕ) → IsLevelled (depth + h) node.old → IsLevelled h other → IsGrafted side (depth + h) node.new result }
     ensures spares { spares.old ≤ spares.new + depth }
+
+    // A spare node has two blocks.
+    ensures blocks { blocks_after node.new result + 2 * spares.new ≡ blocks_of node.old + blocks_of other + 2 * spares.old }
 {
     if depth == 0 {
         return Some((pair, put_beside(node, side, other)));

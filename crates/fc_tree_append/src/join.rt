@@ -1,6 +1,7 @@
 //! Two trees made one where all pairs of one lie before those of the other: the shorter one is grafted on the taller one's border.
-ghost use Rattle.std.specs.Prelude.{◌≡◌, ℕ, suc, ◌+◌, ◌<◌, ◌≤◌, ◌∷◌, ◌++◌, length, None, IfOk, IfErr};
+ghost use Rattle.std.specs.Prelude.{◌≡◌, ℕ, suc, ◌+◌, ◌*◌, ◌<◌, ◌≤◌, ◌∷◌, ◌++◌, length, None, IfOk, IfErr};
 ghost use Rattle.fc_base.specs.Sizes.{most_levels, most_height};
+ghost use Rattle.fc_tree_node.specs.Blocks.{blocks_of, blocks_in};
 ghost use Rattle.fc_tree_node.specs.Node.{pairs_of, IsEmptyInner, IsLevelled, IsSoundRoot, IsTree};
 ghost use Rattle.fc_tree_node.specs.Measures.{height_of};
 ghost use Rattle.fc_tree_node.specs.Tree.{entries, IsSoundMap, IsSoundWithin};
@@ -36,6 +37,9 @@ pub(crate) fn try_join<K: Drop, V: Drop, A: Handle>(
     ensures error { IfErr result (λ e. (e ≡ TryReserveError.AllocError) × (ours.new ≡ ours.old) × (theirs.new ≡ theirs.old)) }
     ensures requests { IfOk result (λ _. asked.new.requests ≡ asked.old.requests + join_requests ours.old theirs.old) }
     ensures at_most { asked.new.requests ≤ asked.old.requests + join_requests ours.old theirs.old }
+
+    // No block stands that neither was there nor was asked for.
+    ensures blocks { IfOk result (λ _. blocks_in ours.new + asked.old.requests ≤ blocks_in ours.old + blocks_in theirs.old + asked.new.requests) }
 {
     let Some(left) = &*ours else { unreachable!() };
     let Some(right) = &*theirs else {
@@ -78,6 +82,7 @@ fn join<K: Drop, V: Drop, A: Handle>(
     requires spares { (our_height + 1 ≤ spares + their_height) × (their_height + 1 ≤ spares + our_height) }
     ensures pairs { entries result ≡ pairs_of left ++ pairs_of right }
     ensures levels { IsSoundWithin most_levels result }
+    ensures blocks { blocks_in result ≤ blocks_of left + blocks_of right + 2 * spares }
 {
     let mut left = left;
     let mut right = right;
@@ -106,6 +111,7 @@ fn join_under_root<K: Drop, V: Drop, A: Handle>(
     requires empty { IsEmptyInner empty }
     ensures pairs { entries result ≡ pairs_of left ++ pair ∷ pairs_of right }
     ensures levels { (h : ℕ) → IsLevelled h left → IsLevelled h right → IsSoundWithin (suc h) result }
+    ensures blocks { blocks_in result ≤ blocks_of left + blocks_of right + 2 }
 {
     let count = &mut Count::new();
     let ours = left.len();

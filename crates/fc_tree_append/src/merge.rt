@@ -3,6 +3,7 @@ ghost use Rattle.std.specs.Prelude.{◌≡◌, ℕ, ◌+◌, ◌-◌, ◌*◌, �
 ghost use Rattle.fc_base.specs.Ascending.{IsAscending};
 ghost use Rattle.fc_base.specs.Joined.{joined};
 ghost use Rattle.fc_base.specs.Sizes.{capacity, most_children};
+ghost use Rattle.fc_tree_node.specs.Blocks.{blocks_in};
 ghost use Rattle.fc_tree_node.specs.Tree.{entries, IsSoundMap};
 ghost use Rattle.fc_tree_drain.specs.LeafFront.{IsOpenLeaf};
 ghost use Rattle.fc_tree_append.specs.Reused.{HasRoom};
@@ -34,6 +35,7 @@ pub(crate) fn merge<K: Ord + Drop, V: Drop, A: Handle>(
     ensures comparisons { count.new.comparisons < count.old.comparisons + (length (entries ours) + length (entries theirs)) }
     ensures least { count.old.comparisons + min (length (entries ours)) (length (entries theirs)) ≤ count.new.comparisons }
     ensures moves { count.new.moves ≡ count.old.moves }
+    ensures blocks { blocks_in result.0 ≤ builder.blocks + blocks_in ours + blocks_in theirs }
 {
     let mut builder = builder;
     let limit = builder.limit();
@@ -66,6 +68,7 @@ fn step<K: Ord + Drop, V: Drop, A: Handle>(
     ensures taken { (length ours.old.pairs ≤ length ours.new.pairs + 1) × (length theirs.old.pairs ≤ length theirs.new.pairs + 1) }
     ensures comparisons { count.new.comparisons ≡ count.old.comparisons + 1 }
     ensures moves { count.new.moves ≡ count.old.moves }
+    ensures blocks { builder.new.blocks + ours.new.blocks + theirs.new.blocks ≤ builder.old.blocks + ours.old.blocks + theirs.old.blocks }
 {
     match compare(&ours.first().0, &theirs.first().0, count) {
         Ordering::Less => {
@@ -95,6 +98,7 @@ fn push_all<K: Drop, V: Drop, A: Handle>(
     ensures pairs { builder.new.pairs ≡ builder.old.pairs ++ pairs.old.pairs }
     ensures filled { length builder.new.pairs + builder.new.limit ≡ length builder.old.pairs + builder.old.limit }
     ensures room { (other : ℕ) → other ≤ capacity → length pairs.old.pairs + other ≤ builder.old.limit → pairs.old.in_leaf + other ≤ builder.old.room → other ≤ builder.new.room }
+    ensures blocks { builder.new.blocks ≤ builder.old.blocks + pairs.old.blocks }
 {
     while !pairs.is_empty() {
         let pair = next(pairs, builder);
@@ -116,6 +120,7 @@ fn next<K: Drop, V: Drop, A: Handle>(
     ensures kept { builder.new.pairs ≡ builder.old.pairs }
     ensures limit { builder.new.limit ≡ builder.old.limit }
     ensures room { (other : ℕ) → other ≤ capacity → length pairs.old.pairs + other ≤ builder.old.limit → pairs.old.in_leaf + other ≤ builder.old.room → pairs.new.in_leaf + other < builder.new.room }
+    ensures blocks { builder.new.blocks + pairs.new.blocks ≤ builder.old.blocks + pairs.old.blocks }
 {
     if pairs.in_leaf() > 0 {
         return pairs.next_in_leaf();

@@ -9,7 +9,9 @@ use Rattle.fc_tree_node.specs.Tree.{entries, IsSoundWithin, IsSoundMap}
 use Rattle.fc_tree_node.proofs.Pairs.{leaf_pairs}
 use Rattle.fc_tree_drain.specs.Opened.{before_back}
 use Rattle.fc_tree_build.specs.Spine.{IsSpine, level_above}
+use Rattle.fc_tree_build.specs.Spares.{worth, needed}
 use Rattle.fc_tree_build.specs.Built.{Grown, grown, last_pairs, last_room, IsGrown}
+use Rattle.fc_tree_build.proofs.SpineFacts.{short_left}
 
 -- as many pairs as a node takes
 pub as_full : {m n : ℕ} → m ≡ n → capacity ≤ m → capacity ≤ n
@@ -34,7 +36,7 @@ module _ {K V Z : Type 0} where
       → own_pairs new ≡ own_pairs leaf ++ p ∷ [] → IsLeaf new ↔ IsLeaf leaf → IsGrown s (Some new) n
   put_grown s n leaf new p g less e f =
       let l = ap length e ∙ length-append (own_pairs leaf) (p ∷ []) in
-      ((omega arith, f.1 g.0.1, g.0.2, g.0.3), g.1, g.2)
+      ((omega arith, f.1 g.0.1, g.0.2, g.0.3), g.1, g.2, g.3, g.4)
 
   pub put_pairs : (s : List (Node K V Z)) (leaf new : Node K V Z) (p : K × V) (zs : List (K × V)) → own_pairs new ≡ own_pairs leaf ++ p ∷ []
       → before_back s ++ own_pairs leaf ≡ zs → before_back s ++ own_pairs new ≡ zs ++ p ∷ []
@@ -49,13 +51,13 @@ module _ {K V Z : Type 0} where
 
   pub grafted_grown : (s old : List (Node K V Z)) (n : ℕ) (leaf new : Node K V Z) (p : K × V) → IsGrown old (Some leaf) n → capacity ≤ length (own_pairs leaf)
       → n < 2 ^ 64 - 1 - 2 * capacity → IsEmptyLeaf new → before_back s ≡ before_back old ++ (pairs_of leaf ++ p ∷ []) → IsSpine 0 s × (length s ≤ most_height)
-      → IsGrown s (Some new) (n + (capacity + 1))
-  grafted_grown s old n leaf new p g full low empty e levels =
+      → worth s ≡ worth old + 1 → ((d : ℕ) → length old ≤ d → needed old ≤ d → length s ≤ d) → IsGrown s (Some new) (n + (capacity + 1))
+  grafted_grown s old n leaf new p g full low empty e levels w short =
       let own = ap length (leaf_pairs leaf g.0.1) in
       let l = ap length e ∙ length-append (before_back old) (pairs_of leaf ++ p ∷ []) in
       let m = length-append (pairs_of leaf) (p ∷ []) in
       let none = ap length empty.0 in
-      ((omega arith, empty.1, levels.0, levels.1), omega arith, omega arith)
+      ((omega arith, empty.1, levels.0, levels.1), omega arith, omega arith, omega arith, short_left old s g.4 w short)
 
   pub grafted_pairs : (s old : List (Node K V Z)) (leaf new : Node K V Z) (p : K × V) (zs : List (K × V)) → IsLeaf leaf → IsEmptyLeaf new
       → before_back s ≡ before_back old ++ (pairs_of leaf ++ p ∷ []) → before_back old ++ own_pairs leaf ≡ zs → before_back s ++ own_pairs new ≡ zs ++ p ∷ []

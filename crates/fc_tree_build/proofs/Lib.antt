@@ -5,3 +5,5 @@ pub mod Builders
 pub mod Ends
 pub mod GrownFacts
 pub mod OrderedFacts
+pub mod BuiltBlocks
+pub mod LoadFacts

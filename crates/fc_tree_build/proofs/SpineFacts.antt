@@ -231,7 +231,8 @@ module _ {K V Z : Type 0} where
       let q : suc d + length s ≡ d + suc (length s) = omega arith in
       subst (λ j. inner_above j (digits_after v s + 1) ≡ inner_above j (digits_after v s) + needed_after a (b ∷ s)) q all
 
-  above_one : (h : ℕ) (s : List (Node K V Z)) → IsSpine h s → IsShort s → length s ≤ most_height
+  -- one more subtree takes as many nodes as are needed
+  pub above_one : (h : ℕ) (s : List (Node K V Z)) → IsSpine h s → IsShort s → length s ≤ most_height
       → inner_above most_levels (worth s + 1) ≡ inner_above most_levels (worth s) + needed s
   above_one h [] f i l = above_first most_levels (omega arith)
   above_one h (b ∷ s) f i l =
@@ -259,7 +260,7 @@ module _ {K V Z : Type 0} where
           absurd (omega arith)
 
   -- a spine stays short, with one more subtree put at its end
-  short_left : (s new : List (Node K V Z)) → IsShort s → worth new ≡ worth s + 1 → ((d : ℕ) → length s ≤ d → needed s ≤ d → length new ≤ d) → IsShort new
+  pub short_left : (s new : List (Node K V Z)) → IsShort s → worth new ≡ worth s + 1 → ((d : ℕ) → length s ≤ d → needed s ≤ d → length new ≤ d) → IsShort new
   short_left s new i w f = within (tally 1 0 0 0 s (inl (omega arith, omega arith, omega arith))) (cases_lt (length s) (needed s))
     where
       within : IsTally (needed s) (worth s) (0 + own_count s) (0 + length s) → (length s < needed s) ⊎ (needed s ≤ length s) → IsShort new

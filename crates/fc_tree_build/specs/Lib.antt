@@ -1,3 +1,4 @@
 pub mod Spine
 pub mod Spares
 pub mod Built
+pub mod Loads

@@ -1,6 +1,7 @@
 //! A tree made of pairs in order, with all of its memory taken before the first.
 ghost use Rattle.std.specs.Prelude.{◌≡◌, min, ◌+◌, ◌-◌, ◌*◌, ◌<◌, ◌≤◌, ◌⊎◌, [], ◌∷◌, ◌++◌, IfOk, IfErr, IsOk};
 ghost use Rattle.fc_base.specs.Sizes.{most_children};
+ghost use Rattle.fc_tree_node.specs.Blocks.{blocks_in};
 ghost use Rattle.fc_tree_node.specs.Node.{IsEmptyLeaf};
 ghost use Rattle.fc_tree_node.specs.Tree.{entries, IsSoundMap};
 ghost use Rattle.fc_tree_node.specs.Requests.{list_requests};
@@ -22,7 +23,7 @@ const MADE_LEAVES: usize = 2;
 
 /// A tree that is made of pairs from the first on, each put at its end: leaves and inner nodes are full, but those on the right
 /// edge. All inner nodes are made before the first pair, and the leaves too, unless more are given later. A contract sees the pairs, for how
-/// many more there is room, and for how many there is once enough leaves are given.
+/// many more there is room, for how many there is once enough leaves are given, and how many blocks of memory all nodes have.
 #[derive(Drop)]
 pub struct Builder<K, V, A: Handle = Global> {
     spine: Spine<K, V, A>,
@@ -90,6 +91,7 @@ impl<K: Drop, V: Drop, A: Handle> Builder<K, V, A> {
         ensures none { n ≡ 0 → IsOk result }
         ensures requests { IfOk result (λ _. asked.new.requests ≡ asked.old.requests + given_requests n) }
         ensures at_most { asked.new.requests ≤ asked.old.requests + given_requests n }
+        ensures blocks { IfOk result (λ b. b.blocks + asked.old.requests ≤ asked.new.requests) }
     {
         Self::try_with_leaves(alloc, n, leaf_count(n).min(MADE_LEAVES), asked)
     }
@@ -108,6 +110,7 @@ impl<K: Drop, V: Drop, A: Handle> Builder<K, V, A> {
         ensures none { n ≡ 0 → IsOk result }
         ensures requests { IfOk result (λ _. asked.new.requests ≡ asked.old.requests + (list_requests 1 count + list_requests 2 (inner_for n))) }
         ensures at_most { asked.new.requests ≤ asked.old.requests + (list_requests 1 count + list_requests 2 (inner_for n)) }
+        ensures blocks { IfOk result (λ b. b.blocks + asked.old.requests ≤ asked.new.requests) }
     {
         let mut leaves = try_leaves(alloc, count, asked)?;
         let inner = try_inner_nodes(alloc, inner_count(n), asked)?;
@@ -128,6 +131,7 @@ impl<K: Drop, V: Drop, A: Handle> Builder<K, V, A> {
         ensures limit { self.new.limit ≡ self.old.limit }
         ensures kept { self.old.room ≤ self.new.room }
         ensures room { min self.old.limit (min (self.old.room + most_children) (2 * most_children)) ≤ self.new.room }
+        ensures blocks { self.new.blocks ≤ self.old.blocks + 1 }
     {
         if self.leaves.len() < self.leaves.capacity() {
             put_spare(&mut self.leaves, leaf);
@@ -142,6 +146,7 @@ impl<K: Drop, V: Drop, A: Handle> Builder<K, V, A> {
         ensures pairs { self.new.pairs ≡ self.old.pairs ++ pair ∷ [] }
         ensures room { self.new.room + 1 ≡ self.old.room }
         ensures limit { self.new.limit + 1 ≡ self.old.limit }
+        ensures blocks { self.new.blocks ≡ self.old.blocks }
     {
         self.limit -= 1;
         let Some(last) = &mut self.last else {
@@ -159,6 +164,7 @@ impl<K: Drop, V: Drop, A: Handle> Builder<K, V, A> {
     pub fn finish(self) -> Option<Node<K, V, A>>
         ensures pairs { entries result ≡ self.pairs }
         ensures sound { IsSoundMap result }
+        ensures blocks { blocks_in result ≤ self.blocks }
     {
         let Builder {
             mut spine,

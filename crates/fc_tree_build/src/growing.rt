@@ -1,11 +1,14 @@
 //! A tree that grows at its right end, with its nodes made as they are needed.
-ghost use Rattle.std.specs.Prelude.{◌≡◌, ◌+◌, ◌<◌, ◌≤◌, ◌⊎◌, ◌↔◌, [], ◌∷◌, ◌++◌, length, IsTrue, IfOk, IfErr, IfSome, None};
+ghost use Rattle.std.specs.Prelude.{◌≡◌, ℕ, ◌+◌, ◌*◌, ◌<◌, ◌≤◌, ◌⊎◌, ◌↔◌, [], ◌∷◌, ◌++◌, length, IsTrue, IfOk, IfErr, IfSome, None};
 ghost use Rattle.fc_base.specs.Sizes.{capacity, most_height};
 ghost use Rattle.fc_tree_drain.specs.Opened.{before_back};
 ghost use Rattle.fc_tree_node.specs.Node.{own_pairs, pairs_of, IsLeaf, IsEmptyLeaf, IsEmptyInner, IsSound};
+ghost use Rattle.fc_tree_node.specs.Requests.{list_requests};
 ghost use Rattle.std.specs.List.{AllByRecursion};
 ghost use Rattle.fc_tree_node.specs.Tree.{entries, IsSoundMap};
 ghost use Rattle.fc_tree_build.specs.Built.{IsAfterLast};
+ghost use Rattle.fc_tree_build.specs.Loads.{load_requests};
+ghost use Rattle.fc_tree_build.specs.Spares.{worth, needed};
 ghost use Rattle.fc_tree_build.specs.Spine.{IsLastPair, IsSpine};
 
 use crate::spine::{Spine, attach, close, has_room, last_of, needed, put_in_room, put_pair};
@@ -102,12 +105,13 @@ impl<K: Drop, V: Drop, A: Handle> GrowingBuilder<K, V, A> {
     }
 
     /// Puts the pair after the others. It compares nothing and moves no other pair. At the first pair it makes a leaf; where the last leaf
-    /// is full, a leaf, an empty node for each full one of the right edge that is closed, and a new root where all are full.
+    /// is full, a leaf, an empty node for each full one of the right edge that is closed, and a new root where all are full. Requests for memory
+    /// are added to `asked`.
     ///
     /// # Errors
     /// The pair and `AllocError` if one of them is refused: all are made before the pair is put. The tree is then as before. So is a leaf
     /// that would let the tree grow to more than `usize::MAX` pairs. Where the last leaf has room it is never refused.
-    pub fn push(&mut self, pair: (K, V)) -> Result<(), ((K, V), TryReserveError)>
+    pub fn push(&mut self, pair: (K, V), asked: &mut Asked) -> Result<(), ((K, V), TryReserveError)>
         ensures pairs { IfOk result (λ _. self.new.pairs ≡ self.old.pairs ++ pair ∷ []) }
         ensures room { IfOk result (λ _. 0 < self.old.room → self.new.room + 1 ≡ self.old.room) }
         ensures fresh { IfOk result (λ _. self.old.room ≡ 0 → capacity ≤ self.new.room + 1) }
@@ -116,10 +120,12 @@ impl<K: Drop, V: Drop, A: Handle> GrowingBuilder<K, V, A> {
         ensures error { IfErr result (λ e. e.1 ≡ TryReserveError.AllocError) }
         ensures full { IfErr result (λ _. (self.old.pairs ≡ []) ⊎ (capacity ≤ length self.old.pairs)) }
         ensures no_room { IfErr result (λ _. self.old.room ≡ 0) }
+        ensures at_most { asked.new.requests + load_requests (length self.old.pairs) ≤ asked.old.requests + load_requests (length self.old.pairs + 1) }
+        ensures none { 0 < self.old.room → asked.new.requests ≡ asked.old.requests }
     {
         match self.put_in_leaf(pair) {
             None => Ok(()),
-            Some(pair) => self.push_growing(pair),
+            Some(pair) => self.push_growing(pair, asked),
         }
     }
 
@@ -141,9 +147,13 @@ impl<K: Drop, V: Drop, A: Handle> GrowingBuilder<K, V, A> {
     }
 
     // The same by what takes memory, whether the last leaf is full or not. It is not inlined, since the pushes that take none would then
-    // pay for its locals.
+    // pay for its locals. Requests for memory are added to `asked`.
     #[inline(never)]
-    fn push_growing(&mut self, pair: (K, V)) -> Result<(), ((K, V), TryReserveError)>
+    fn push_growing(
+        &mut self,
+        pair: (K, V),
+        asked: &mut Asked,
+    ) -> Result<(), ((K, V), TryReserveError)>
         ensures pairs { IfOk result (λ _. self.new.pairs ≡ self.old.pairs ++ pair ∷ []) }
         ensures room { IfOk result (λ _. 0 < self.old.room → self.new.room + 1 ≡ self.old.room) }
         ensures fresh { IfOk result (λ _. self.old.room ≡ 0 → capacity ≤ self.new.room + 1) }
@@ -152,9 +162,10 @@ impl<K: Drop, V: Drop, A: Handle> GrowingBuilder<K, V, A> {
         ensures error { IfErr result (λ e. e.1 ≡ TryReserveError.AllocError) }
         ensures full { IfErr result (λ _. (self.old.pairs ≡ []) ⊎ (capacity ≤ length self.old.pairs)) }
         ensures no_room { IfErr result (λ _. self.old.room ≡ 0) }
+        ensures at_most { asked.new.requests + load_requests (length self.old.pairs) ≤ asked.old.requests + load_requests (length self.old.pairs + 1) }
     {
         let Some(last) = &mut self.last else {
-            return match first_leaf(self.alloc, pair) {
+            return match first_leaf(self.alloc, pair, asked) {
                 Ok(leaf) => {
                     self.last = Some(leaf);
                     Ok(())
@@ -170,7 +181,7 @@ impl<K: Drop, V: Drop, A: Handle> GrowingBuilder<K, V, A> {
         if self.before >= usize::MAX - 2 * CAPACITY {
             return Err((pair, TryReserveError::AllocError));
         }
-        graft_full(self.alloc, &mut self.spine, last, pair)?;
+        graft_full(self.alloc, &mut self.spine, last, pair, asked)?;
         self.before += CAPACITY + 1;
         Ok(())
     }
@@ -201,16 +212,18 @@ fn is_after<K: Ord, V, A: Handle>(leaf: &Node<K, V, A>, key: &K) -> bool
     leaf.pair(leaf.len() - 1).0.cmp(key).is_lt()
 }
 
-// A leaf of one pair.
+// A leaf of one pair. Requests for memory are added to `asked`.
 #[inline(never)]
 fn first_leaf<K: Drop, V: Drop, A: Handle>(
     alloc: A,
     pair: (K, V),
+    asked: &mut Asked,
 ) -> Result<Node<K, V, A>, ((K, V), TryReserveError)>
     ensures ok { IfOk result (λ leaf. (own_pairs leaf ≡ pair ∷ []) × IsLeaf leaf) }
     ensures error { IfErr result (λ e. (e.0 ≡ pair) × (e.1 ≡ TryReserveError.AllocError)) }
+    ensures requests { asked.new.requests ≡ asked.old.requests + 1 }
 {
-    match Node::try_leaf(alloc, &mut Asked::new()) {
+    match Node::try_leaf(alloc, asked) {
         Ok(mut leaf) => {
             put_pair(&mut leaf, pair);
             Ok(leaf)
@@ -220,12 +233,13 @@ fn first_leaf<K: Drop, V: Drop, A: Handle>(
 }
 
 // Puts the full last leaf and the pair after it at the spine's end, and an empty leaf in its place. Where the spine's last node has room,
-// that is the one node that is made.
+// that is the one node that is made. Requests for memory are added to `asked`.
 fn graft_full<K: Drop, V: Drop, A: Handle>(
     alloc: A,
     spine: &mut Spine<K, V, A>,
     last: &mut Node<K, V, A>,
     pair: (K, V),
+    asked: &mut Asked,
 ) -> Result<(), ((K, V), TryReserveError)>
     requires levels { IsSpine 0 spine.old × IsSound 0 last.old }
     requires low { length spine.old ≤ most_height }
@@ -234,11 +248,14 @@ fn graft_full<K: Drop, V: Drop, A: Handle>(
     ensures levels { IfOk result (λ _. IsSpine 0 spine.new × (length spine.new ≤ most_height)) }
     ensures unchanged { IfErr result (λ e. (spine.new ≡ spine.old) × (last.new ≡ last.old) × (e.0 ≡ pair)) }
     ensures error { IfErr result (λ e. e.1 ≡ TryReserveError.AllocError) }
+    ensures worth { IfOk result (λ _. worth spine.new ≡ worth spine.old + 1) }
+    ensures short { IfOk result (λ _. (d : ℕ) → length spine.old ≤ d → needed spine.old ≤ d → length spine.new ≤ d) }
+    ensures at_most { asked.new.requests ≤ asked.old.requests + 1 + 3 * needed spine.old }
 {
     if !has_room(spine) {
-        return graft_above(alloc, spine, last, pair);
+        return graft_above(alloc, spine, last, pair, asked);
     }
-    match Node::try_leaf(alloc, &mut Asked::new()) {
+    match Node::try_leaf(alloc, asked) {
         Ok(empty) => {
             let leaf = mem::replace(last, empty);
             put_in_room(spine, leaf, pair);
@@ -248,13 +265,14 @@ fn graft_full<K: Drop, V: Drop, A: Handle>(
     }
 }
 
-// The same by what makes inner nodes, whether they are needed or not.
+// The same by what makes inner nodes, whether they are needed or not. Requests for memory are added to `asked`.
 #[inline(never)]
 fn graft_above<K: Drop, V: Drop, A: Handle>(
     alloc: A,
     spine: &mut Spine<K, V, A>,
     last: &mut Node<K, V, A>,
     pair: (K, V),
+    asked: &mut Asked,
 ) -> Result<(), ((K, V), TryReserveError)>
     requires levels { IsSpine 0 spine.old × IsSound 0 last.old }
     requires low { length spine.old ≤ most_height }
@@ -263,8 +281,11 @@ fn graft_above<K: Drop, V: Drop, A: Handle>(
     ensures levels { IfOk result (λ _. IsSpine 0 spine.new × (length spine.new ≤ most_height)) }
     ensures unchanged { IfErr result (λ e. (spine.new ≡ spine.old) × (last.new ≡ last.old) × (e.0 ≡ pair)) }
     ensures error { IfErr result (λ e. e.1 ≡ TryReserveError.AllocError) }
+    ensures worth { IfOk result (λ _. worth spine.new ≡ worth spine.old + 1) }
+    ensures short { IfOk result (λ _. (d : ℕ) → length spine.old ≤ d → needed spine.old ≤ d → length spine.new ≤ d) }
+    ensures at_most { asked.new.requests ≤ asked.old.requests + 1 + 3 * needed spine.old }
 {
-    match try_leaf_and_inner(alloc, needed(spine)) {
+    match try_leaf_and_inner(alloc, needed(spine), asked) {
         Ok((empty, mut spares)) => {
             let leaf = mem::replace(last, empty);
             attach(spine, leaf, pair, &mut spares);
@@ -275,19 +296,21 @@ fn graft_above<K: Drop, V: Drop, A: Handle>(
 }
 
 // A leaf and so many inner nodes. For more than a tree has levels above its leaves none are made, so that no tree gets too high; as many as
-// `usize::MAX` pairs never need them.
+// `usize::MAX` pairs never need them. Requests for memory are added to `asked`.
 fn try_leaf_and_inner<K: Drop, V: Drop, A: Handle>(
     alloc: A,
     inner: usize,
+    asked: &mut Asked,
 ) -> Result<(Node<K, V, A>, Vec<Node<K, V, A>, A>), TryReserveError>
     ensures leaf { IfOk result (λ nodes. IsEmptyLeaf nodes.0) }
     ensures inner { IfOk result (λ nodes. (length nodes.1.items ≡ inner) × AllByRecursion (λ b. IsEmptyInner b) nodes.1.items × (inner ≤ most_height)) }
     ensures error { IfErr result (λ e. e ≡ TryReserveError.AllocError) }
+    ensures at_most { asked.new.requests ≤ asked.old.requests + 1 + list_requests 2 inner }
 {
     if inner >= MAX_STEPS {
         return Err(TryReserveError::AllocError);
     }
-    let leaf = Node::try_leaf(alloc, &mut Asked::new())?;
-    let spares = try_inner_nodes(alloc, inner, &mut Asked::new())?;
+    let leaf = Node::try_leaf(alloc, asked)?;
+    let spares = try_inner_nodes(alloc, inner, asked)?;
     Ok((leaf, spares))
 }

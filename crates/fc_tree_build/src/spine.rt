@@ -1,7 +1,9 @@
 //! The right spine of a tree that grows at its right end.
-ghost use Rattle.std.specs.Prelude.{◌≡◌, ℕ, suc, ◌+◌, ◌-◌, ◌*◌, ◌<◌, ◌≤◌, ◌↔◌, [], ◌∷◌, ◌++◌, length, IsTrue};
+ghost use Rattle.std.specs.Prelude.{◌≡◌, ℕ, suc, ◌+◌, ◌-◌, ◌*◌, ◌<◌, ◌≤◌, ◌↔◌, [], ◌∷◌, ◌++◌, length, map, IsTrue};
 ghost use Rattle.std.specs.List.{AllByRecursion};
 ghost use Rattle.fc_base.specs.Sizes.{capacity, most_children, most_height, most_levels};
+ghost use Rattle.fc_tree_node.specs.Blocks.{blocks_of};
+ghost use Rattle.fc_tree_node.specs.Measures.{total};
 ghost use Rattle.fc_tree_node.specs.Node.{own_pairs, children_of, pairs_of, IsLeaf, IsSound, IsEmptyInner};
 ghost use Rattle.fc_tree_node.specs.Bordered.{IsRightBordered};
 ghost use Rattle.fc_tree_drain.specs.Opened.{before_back_in, before_back};
@@ -37,6 +39,9 @@ pub fn attach<K: Drop, V: Drop, A: Handle>(
     ensures left { capacity * (length spares.new.items + length spine.new) + own_count spine.old + 1 ≡ capacity * (length spares.old.items + length spine.old) + own_count spine.new }
     ensures used { length spares.old.items ≡ length spares.new.items + needed spine.old }
     ensures short { (d : ℕ) → length spine.old ≤ d → needed spine.old ≤ d → length spine.new ≤ d }
+
+    // The blocks of the spares that it takes are the spine's now.
+    ensures blocks { total (map blocks_of spine.new) + 2 * length spares.new.items ≡ total (map blocks_of spine.old) + 2 * length spares.old.items + blocks_of subtree }
 {
     let mut node = open_end(spine, spares);
     put_child(&mut node, subtree);
@@ -61,6 +66,8 @@ pub(crate) fn put_in_room<K: Drop, V: Drop, A: Handle>(
     ensures pairs { before_back spine.new ≡ before_back spine.old ++ (pairs_of subtree ++ pair ∷ []) }
     ensures levels { IsSpine 0 spine.new }
     ensures length { length spine.new ≡ length spine.old }
+    ensures blocks { total (map blocks_of spine.new) ≡ total (map blocks_of spine.old) + blocks_of subtree }
+    ensures worth { worth spine.new ≡ worth spine.old + 1 }
 {
     let mut node = spine.pop();
     put_child(&mut node, subtree);
@@ -76,6 +83,7 @@ pub fn close<K: Drop, V: Drop, A: Handle>(
     requires levels { (h : ℕ) × IsSpine h spine.old × IsRightBordered h last }
     ensures pairs { pairs_of result ≡ before_back spine.old ++ pairs_of last }
     ensures levels { (h : ℕ) → IsSpine h spine.old → IsRightBordered h last → IsRightBordered (level_above h spine.old) result }
+    ensures blocks { blocks_of result ≡ total (map blocks_of spine.old) + blocks_of last }
 {
     if spine.len() == 0 {
         return last;
@@ -142,6 +150,7 @@ fn open_end<K: Drop, V: Drop, A: Handle>(
     ensures room { 0 < length spine.old → length (own_pairs result) < capacity → needed spine.old ≡ 0 }
     ensures used { length spares.old.items ≤ length spares.new.items + needed spine.old }
     ensures kept { 0 < length spine.old → spares.new ≡ spares.old }
+    ensures blocks { total (map blocks_of spine.new) + 2 * length spares.new.items + blocks_of result ≡ total (map blocks_of spine.old) + 2 * length spares.old.items }
 {
     if spine.len() == 0 {
         return take_spare(spares);

@@ -5,7 +5,7 @@ ghost use Rattle.fc_base.specs.Ascending.{IsAscending};
 ghost use Rattle.fc_tree_node.specs.Tree.{entries, IsSoundMap};
 ghost use Rattle.fc_tree_copy.specs.Copy.{AreSame};
 
-use fc_base::Handle;
+use fc_base::{Asked, Handle};
 use fc_map_iter::iter::Iter;
 use fc_tree_build::growing::GrowingBuilder;
 use fc_tree_build::ordered::is_after_all;
@@ -24,20 +24,22 @@ pub fn try_cloned<K: Ord + Clone, V: Clone, A: Handle>(
     ensures ascending { IfOk result (λ made. IsAscending K.cmp (entries made)) }
     ensures sound { IfOk result (λ made. IsSoundMap made) }
 {
+    let asked = &mut Asked::new();
     let mut clones = GrowingBuilder::new(alloc);
     for (key, value) in pairs {
         let key = key.clone()?;
         let value = value.clone()?;
-        push_if_after(&mut clones, key, value)?;
+        push_if_after(&mut clones, key, value, asked)?;
     }
     Ok(clones.finish())
 }
 
-// Puts the pair after the others; an error where its key doesn't lie after theirs, or a node was refused.
+// Puts the pair after the others; an error where its key doesn't lie after theirs, or a node was refused. Requests for memory are added to `asked`.
 fn push_if_after<K: Ord + Drop, V: Drop, A: Handle>(
     tree: &mut GrowingBuilder<K, V, A>,
     key: K,
     value: V,
+    asked: &mut Asked,
 ) -> Result<(), AllocError>
     requires { IsAscending K.cmp tree.old.pairs }
     ensures put { IfOk result (λ _. tree.new.pairs ≡ tree.old.pairs ++ (key, value) ∷ []) }
@@ -46,7 +48,7 @@ fn push_if_after<K: Ord + Drop, V: Drop, A: Handle>(
     if !is_after_all(tree, &key) {
         return Err(AllocError);
     }
-    match tree.push((key, value)) {
+    match tree.push((key, value), asked) {
         Ok(()) => Ok(()),
         Err((_pair, _refused)) => Err(AllocError),
     }

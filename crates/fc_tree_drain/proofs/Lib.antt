@@ -3,3 +3,4 @@ pub mod Ends
 pub mod LeafFronts
 pub mod Opening
 pub mod Sizes
+pub mod OpenedBlocks

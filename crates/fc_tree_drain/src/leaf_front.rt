@@ -1,5 +1,6 @@
 //! The front of a tree that is taken apart, which hands out each leaf that is used up, to be filled anew.
-ghost use Rattle.std.specs.Prelude.{◌≡◌, ◌+◌, ◌<◌, List, ◌∷◌, ◌↔◌, length, IsTrue};
+ghost use Rattle.std.specs.Prelude.{◌≡◌, ◌+◌, ◌<◌, ◌≤◌, List, ◌∷◌, ◌↔◌, length, IsTrue};
+ghost use Rattle.fc_tree_node.specs.Blocks.{blocks_in};
 ghost use Rattle.fc_tree_node.specs.Node.{IsEmptyLeaf};
 ghost use Rattle.fc_tree_node.specs.Tree.{entries, IsSoundMap};
 ghost use Rattle.fc_tree_drain.specs.LeafFront.{IsOpenLeaf};
@@ -11,8 +12,8 @@ use fc_tree_node::node::Node;
 use std::alloc::Global;
 use std::marker::Model;
 
-/// The front of a tree that is taken apart from there alone. A contract sees the pairs that are left, and how many of them stand in
-/// the open leaf, which is the first. It takes no memory, and drops what is left.
+/// The front of a tree that is taken apart from there alone. A contract sees the pairs that are left, how many of them stand in
+/// the open leaf, which is the first, and how many blocks of memory are left. It takes no memory, and drops what is left.
 #[derive(Drop)]
 pub struct LeafFront<K, V, A: Handle = Global> {
     run: Run<K, V, A>,
@@ -63,6 +64,7 @@ impl<K: Drop, V: Drop, A: Handle> LeafFront<K, V, A> {
         requires { IsSoundMap root }
         ensures pairs { result.pairs ≡ entries root }
         ensures leaf { IsOpenLeaf result }
+        ensures blocks { result.blocks ≤ blocks_in root }
     {
         let mut nodes = Stack::new();
         let mut run = None;
@@ -77,6 +79,7 @@ impl<K: Drop, V: Drop, A: Handle> LeafFront<K, V, A> {
         requires { 0 < self.old.in_leaf }
         ensures pairs { self.old.pairs ≡ result ∷ self.new.pairs }
         ensures in_leaf { self.old.in_leaf ≡ self.new.in_leaf + 1 }
+        ensures blocks { self.new.blocks ≡ self.old.blocks }
     {
         take_first(&mut self.run)
     }
@@ -90,6 +93,7 @@ impl<K: Drop, V: Drop, A: Handle> LeafFront<K, V, A> {
         ensures pairs { self.old.pairs ≡ result.0 ∷ self.new.pairs }
         ensures empty { IsEmptyLeaf result.1 }
         ensures leaf { IsOpenLeaf self.new }
+        ensures blocks { self.new.blocks + 1 ≤ self.old.blocks }
     {
         let Some(used) = self.run.take() else {
             unreachable!()

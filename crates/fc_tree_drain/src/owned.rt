@@ -1,6 +1,8 @@
 //! Nodes taken apart from their ends: opened down to a leaf, whose pairs become a run, and a pair given out of the node on the top.
-ghost use Rattle.std.specs.Prelude.{◌≡◌, ℕ, suc, ◌<◌, ◌≤◌, List, [], ◌∷◌, ◌++◌, length, IsSome};
+ghost use Rattle.std.specs.Prelude.{◌≡◌, ℕ, suc, ◌+◌, ◌<◌, ◌≤◌, List, [], ◌∷◌, ◌++◌, length, map, IsSome};
 ghost use Rattle.fc_base.specs.Sizes.{capacity, most_levels};
+ghost use Rattle.fc_tree_node.specs.Blocks.{blocks_of};
+ghost use Rattle.fc_tree_node.specs.Measures.{total};
 ghost use Rattle.fc_tree_node.specs.Node.{own_pairs, children_of, pairs_of, items_or_none};
 ghost use Rattle.fc_tree_drain.specs.Opened.{IsOpened, IsFalling, AreEven, IsUnder, after_front_in, before_back_in, after_front, before_back};
 
@@ -69,6 +71,9 @@ pub fn open_first<K: Drop, V: Drop, A: Handle>(
     ensures some { 0 < length (items_or_none run.new) }
     ensures fits { length (items_or_none run.new) ≤ capacity }
     ensures even { AreEven stack.old → AreEven stack.new }
+
+    // The leaf's block is the run's now.
+    ensures blocks { total (map blocks_of stack.new) + 1 ≤ total (map blocks_of stack.old) + blocks_of node }
 {
     let mut node = node;
     if node.child_count() == 0 {
@@ -108,6 +113,7 @@ fn keep<K: Drop, V: Drop, A: Handle>(stack: &mut Nodes<K, V, A>, node: Node<K, V
     ensures back { before_back stack.new ≡ before_back stack.old ++ before_back_in node }
     ensures levels { (h : ℕ) → IsOpened h node → IsFalling (suc h) most_levels stack.old → IsFalling h most_levels stack.new }
     ensures even { length (children_of node) ≡ length (own_pairs node) → AreEven stack.old → AreEven stack.new }
+    ensures blocks { total (map blocks_of stack.new) ≤ total (map blocks_of stack.old) + blocks_of node }
 {
     if node.len() == 0 {
         return;
@@ -130,6 +136,7 @@ pub fn pop_first_pair<K: Drop, V: Drop, A: Handle>(
 
     // Where nothing was taken from the back, the next leaf is opened.
     ensures even { AreEven stack.old → AreEven stack.new × (0 < length (items_or_none run.new)) }
+    ensures blocks { AreEven stack.old → total (map blocks_of stack.new) + 1 ≤ total (map blocks_of stack.old) }
 {
     let mut node = stack.pop();
     let pair = node.take_first_pair();

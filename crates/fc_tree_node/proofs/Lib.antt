@@ -18,3 +18,4 @@ pub mod Lent
 pub mod Ways
 pub mod Bare
 pub mod Requested
+pub mod SiblingBlocks

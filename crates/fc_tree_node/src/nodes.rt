@@ -18,7 +18,7 @@ pub fn try_leaves<K: Drop, V: Drop, A: Handle>(
     asked: &mut Asked,
 ) -> Result<Vec<Node<K, V, A>, A>, TryReserveError>
     ensures ok { IfOk result (λ v. (length v.items ≡ count) × AllByRecursion (λ b. IsEmptyLeaf b) v.items) }
-    ensures capacity { IfOk result (λ v. count ≤ vec_capacity v) }
+    ensures capacity { IfOk result (λ v. vec_capacity v ≡ count) }
     ensures error { IfErr result (λ e. e ≡ TryReserveError.AllocError) }
     ensures none { count ≡ 0 → IsOk result }
     ensures requests { IfOk result (λ _. asked.new.requests ≡ asked.old.requests + list_requests 1 count) }
@@ -48,6 +48,7 @@ pub fn try_inner_nodes<K: Drop, V: Drop, A: Handle>(
     asked: &mut Asked,
 ) -> Result<Vec<Node<K, V, A>, A>, TryReserveError>
     ensures ok { IfOk result (λ v. (length v.items ≡ count) × AllByRecursion (λ b. IsEmptyInner b) v.items) }
+    ensures capacity { IfOk result (λ v. vec_capacity v ≡ count) }
     ensures error { IfErr result (λ e. e ≡ TryReserveError.AllocError) }
     ensures none { count ≡ 0 → IsOk result }
     ensures requests { IfOk result (λ _. asked.new.requests ≡ asked.old.requests + list_requests 2 count) }
@@ -72,9 +73,7 @@ pub fn put_spare<K: Drop, V: Drop, A: Handle>(
 )
     requires { length spares.old.items < vec_capacity spares.old }
     ensures items { spares.new.items ≡ spares.old.items ++ node ∷ [] }
-    ensures capacity { vec_capacity spares.old ≤ vec_capacity spares.new }
+    ensures capacity { vec_capacity spares.new ≡ vec_capacity spares.old }
 {
-    let Ok(_) = spares.push(node) else {
-        unreachable!()
-    };
+    spares.push_reserved(node);
 }

@@ -5,3 +5,4 @@ pub mod Rebalanced
 pub mod Cuts
 pub mod Counts
 pub mod Parts
+mod SplitBlocks

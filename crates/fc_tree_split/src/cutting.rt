@@ -1,5 +1,6 @@
 //! Cuts of a tree in two, along a path.
 ghost use Rattle.std.specs.Prelude.{◌≡◌, ℕ, ◌+◌, ◌*◌, ◌<◌, ◌≤◌, [], ◌++◌, length, Some, IfOk, IfErr, OnOk, IsTrue, ◌↔◌, slice_index};
+ghost use Rattle.fc_tree_node.specs.Blocks.{blocks_of, blocks_in};
 ghost use Rattle.fc_tree_node.specs.Measures.{height_of};
 ghost use Rattle.fc_tree_node.specs.Node.{own_pairs, children_of, pairs_of, IsLevelled, IsSoundRoot};
 ghost use Rattle.fc_tree_node.specs.Path.{IsPath, after_gap};
@@ -40,6 +41,7 @@ pub fn try_split_counted<K: Drop, V: Drop, A: Handle>(
     ensures unchanged { IfErr result (λ _. root.new ≡ root.old) }
     ensures requests { OnOk result (asked.new.requests ≡ asked.old.requests + border_requests root.old) }
     ensures at_most { asked.new.requests ≤ asked.old.requests + border_requests root.old }
+    ensures blocks { IfOk result (λ right. blocks_in root.new + blocks_in right.0 ≤ blocks_in root.old + border_requests root.old) }
 {
     let Some(tree) = &*root else { unreachable!() };
     let is_left_smaller = is_left_smaller(tree, path);
@@ -70,6 +72,7 @@ pub fn try_split<K: Drop, V: Drop, A: Handle>(
     ensures error { IfErr result (λ e. (e ≡ TryReserveError.AllocError) × (root.new ≡ root.old)) }
     ensures requests { OnOk result (asked.new.requests ≡ asked.old.requests + border_requests root.old) }
     ensures at_most { asked.new.requests ≤ asked.old.requests + border_requests root.old }
+    ensures blocks { IfOk result (λ right. blocks_in root.new + blocks_in right ≤ blocks_in root.old + border_requests root.old) }
 {
     let Some(whole) = &*root else { unreachable!() };
     let border = try_border(alloc, whole, asked)?;
@@ -96,6 +99,7 @@ pub fn try_border<K: Drop, V: Drop, A: Handle>(
     ensures error { IfErr result (λ e. e ≡ TryReserveError.AllocError) }
     ensures requests { OnOk result (asked.new.requests ≡ asked.old.requests + (2 * height_of node.now + 1)) }
     ensures at_most { asked.new.requests ≤ asked.old.requests + (2 * height_of node.now + 1) }
+    ensures blocks { IfOk result (λ top. blocks_of top ≡ 2 * height_of node.now + 1) }
 {
     if node.is_leaf() {
         return Node::try_leaf(alloc, asked);
@@ -119,6 +123,7 @@ pub fn cut<K: Drop, V: Drop, A: Handle>(
     requires border { (h : ℕ) → IsLevelled h root → IsEmpty h border }
     ensures pairs { IsCutInTwo path.now (Some root) result.0 result.1 }
     ensures levels { (h : ℕ) → IsLevelled h root → IsSoundWithin h result.0 × IsSoundWithin h result.1 }
+    ensures blocks { blocks_in result.0 + blocks_in result.1 ≤ blocks_of root + blocks_of border }
 {
     let mut left = root;
     let mut right = border;
@@ -140,6 +145,7 @@ fn cut_into<K: Drop, V: Drop, A: Handle>(
     ensures back { pairs_of right.new ≡ after_gap path.now node.old }
     ensures front_levels { (h : ℕ) → IsLevelled h node.old → IsEmpty h right.old → IsRightBordered h node.new }
     ensures back_levels { (h : ℕ) → IsLevelled h node.old → IsEmpty h right.old → IsLeftBordered h right.new }
+    ensures blocks { blocks_of node.new + blocks_of right.new ≡ blocks_of node.old + blocks_of right.old }
 {
     let i = path[0] as usize;
     node.move_suffix(i, right, count);

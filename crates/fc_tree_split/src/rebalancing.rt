@@ -1,6 +1,7 @@
 //! Rebalancing of a tree whose nodes on the leftmost or on the rightmost path may hold too few pairs.
 ghost use Rattle.std.specs.Prelude.{◌≡◌, ℕ, suc, ◌+◌, ◌-◌, ◌<◌, ◌≤◌, length};
 ghost use Rattle.fc_base.specs.Sizes.{capacity};
+ghost use Rattle.fc_tree_node.specs.Blocks.{blocks_of, blocks_in};
 ghost use Rattle.fc_tree_node.specs.Node.{own_pairs, pairs_of};
 ghost use Rattle.fc_tree_node.specs.Tree.{entries, IsSoundWithin};
 ghost use Rattle.fc_tree_node.specs.Bordered.{IsLeftBordered, IsRightBordered};
@@ -26,6 +27,7 @@ pub fn rebalance_right<K: Drop, V: Drop, A: Handle>(root: Node<K, V, A>) -> Opti
     requires { (h : ℕ) × IsRightBordered h root }
     ensures pairs { entries result ≡ pairs_of root }
     ensures levels { (h : ℕ) → IsRightBordered h root → IsSoundWithin h result }
+    ensures blocks { blocks_in result ≤ blocks_of root }
 {
     rebalance(root, Border::Right, &mut Count::new())
 }
@@ -36,6 +38,7 @@ pub fn rebalance_left<K: Drop, V: Drop, A: Handle>(root: Node<K, V, A>) -> Optio
     requires { (h : ℕ) × IsLeftBordered h root }
     ensures pairs { entries result ≡ pairs_of root }
     ensures levels { (h : ℕ) → IsLeftBordered h root → IsSoundWithin h result }
+    ensures blocks { blocks_in result ≤ blocks_of root }
 {
     rebalance(root, Border::Left, &mut Count::new())
 }
@@ -50,6 +53,7 @@ pub fn rebalance<K: Drop, V: Drop, A: Handle>(
     requires { (h : ℕ) × IsBordered side h root }
     ensures pairs { entries result ≡ pairs_of root }
     ensures levels { (h : ℕ) → IsBordered side h root → IsSoundWithin h result }
+    ensures blocks { blocks_in result ≤ blocks_of root }
 {
     // While the root has no pair, its only child takes its place.
     if root.len() == 0 {
@@ -76,6 +80,7 @@ fn rebalance_below<K: Drop, V: Drop, A: Handle>(
     requires bordered { (h : ℕ) × IsBordered side h node.old }
     ensures pairs { pairs_of node.new ≡ pairs_of node.old }
     ensures levels { (h : ℕ) → IsBordered side h node.old → IsShrunk h node.old node.new }
+    ensures blocks { blocks_of node.new ≤ blocks_of node.old }
 {
     if node.is_leaf() {
         return;
@@ -107,6 +112,7 @@ fn ensure_spare_pair<K: Drop, V: Drop, A: Handle>(
     requires bordered { (h : ℕ) × IsBordered side (suc h) node.old }
     ensures pairs { pairs_of node.new ≡ pairs_of node.old }
     ensures with_spare_pair { (h : ℕ) → IsBordered side (suc h) node.old → HasSparePair side h node.old node.new }
+    ensures blocks { blocks_of node.new ≤ blocks_of node.old }
 {
     let edge = border_child(node, side);
     let held = node.child(edge).len();

@@ -109,11 +109,12 @@ fn ends_before(tree: &GrowingBuilder<u64, u64>, key: u64) -> bool {
 
 // Puts the keys up to `end` one after the other, each with itself.
 fn grows(tree: &mut GrowingBuilder<u64, u64>, end: u64) -> Result<bool, TryReserveError> {
+    let asked = &mut Asked::new();
     for key in 0..end {
         if !ends_before(tree, key) {
             return Ok(false);
         }
-        match tree.push((key, key)) {
+        match tree.push((key, key), asked) {
             Ok(()) => (),
             Err((_pair, error)) => return Err(error),
         }

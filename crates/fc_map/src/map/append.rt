@@ -4,6 +4,7 @@ ghost use Rattle.fc_base.specs.Ascending.{IsAscending};
 ghost use Rattle.fc_base.specs.Growth.{MayAppendRefuse};
 ghost use Rattle.fc_base.specs.Joined.{joined};
 ghost use Rattle.fc_map.specs.Entries.{entries, IsSoundMap};
+ghost use Rattle.fc_map.specs.Kept.{blocks_in};
 ghost use Rattle.fc_map.specs.WholeRequests.{given_requests, join_requests};
 
 use super::BTreeMap;
@@ -60,7 +61,7 @@ impl<K: Ord + Drop, V: Drop, A: Handle> BTreeMap<K, V, A> {
 
     /// `append_counted`, with its requests for memory added to `asked`: none where one of the two is empty; two for each level between the two roots and two for
     /// a new root where all keys of `other` lie after ours; else those for two leaves and for the inner nodes that so many pairs can need, each with a list;
-    /// where it is refused, no more.
+    /// where it is refused, no more. The map then has no block of memory that was in neither and not asked for.
     ///
     /// # Errors
     /// As `append`.
@@ -86,7 +87,10 @@ impl<K: Ord + Drop, V: Drop, A: Handle> BTreeMap<K, V, A> {
         ensures no_request { (entries self.old ≡ []) ⊎ (entries other.old ≡ []) → asked.new.requests ≡ asked.old.requests }
         ensures requests_after { IfOk result (λ _. 0 < length (entries self.old) → 0 < length (entries other.old) → IsAscending K.cmp (entries self.old ++ entries other.old) → asked.new.requests ≡ asked.old.requests + join_requests self.old other.old) }
         ensures requests_merged { IfOk result (λ _. ¬ IsAscending K.cmp (entries self.old ++ entries other.old) → asked.new.requests ≡ asked.old.requests + given_requests (length (entries self.old) + length (entries other.old))) }
+        ensures at_most_after { IsAscending K.cmp (entries self.old ++ entries other.old) → asked.new.requests ≤ asked.old.requests + join_requests self.old other.old }
+        ensures at_most_merged { ¬ IsAscending K.cmp (entries self.old ++ entries other.old) → asked.new.requests ≤ asked.old.requests + given_requests (length (entries self.old) + length (entries other.old)) }
         ensures at_most { asked.new.requests ≤ asked.old.requests + max (join_requests self.old other.old) (given_requests (length (entries self.old) + length (entries other.old))) }
+        ensures blocks { IfOk result (λ _. asked.old.requests + (blocks_in self.new + blocks_in other.new) ≤ asked.new.requests + (blocks_in self.old + blocks_in other.old)) }
     {
         self.len = try_append(
             self.alloc,

@@ -12,8 +12,7 @@ ghost use Rattle.fc_vec.specs.Items.{GivesAll, GivesFirst};
 ghost use Rattle.fc_map.specs.Entries.{entries, IsSoundMap};
 
 use super::BTreeMap;
-use super::bulk_load::BulkLoad;
-use fc_base::{Count, Handle, TryReserveError};
+use fc_base::{Asked, Count, Handle, TryReserveError};
 use fc_tree_cursor::ends::last_gap_in;
 use fc_tree_node::node::CAPACITY;
 use fc_vec::TryFromIterator;
@@ -87,7 +86,7 @@ impl<K: Ord + Drop, V: Drop, A: Handle> BTreeMap<K, V, A> {
             self.insert_in_room(&path, pair, &mut Count::new());
             return Ok(());
         }
-        self.put_growing(&mut path, key, value, &mut Count::new())
+        self.put_growing(&mut path, key, value, &mut Count::new(), &mut Asked::new())
     }
 }
 
@@ -126,16 +125,6 @@ impl<K: Ord + Drop, V: Drop> TryFromIterator<(K, V)> for BTreeMap<K, V> {
         ensures ascending { IfOk result (λ made. IsAscending K.cmp (entries made)) }
         ensures sound { IfOk result (λ made. IsSoundMap made) }
     {
-        let mut load = BulkLoad::new(alloc);
-        for (key, value) in iter {
-            match load.try_put(key, value) {
-                Ok(()) => (),
-                Err(error) => return Err(error),
-            }
-        }
-        match load.flush() {
-            Ok(()) => Ok(load.finish()),
-            Err(error) => Err(error),
-        }
+        BTreeMap::try_from_iterator_asked(alloc, iter, &mut Asked::new())
     }
 }

@@ -29,6 +29,7 @@ impl<K: Ord + Drop, V: Drop, A: Handle> BTreeMap<K, V, A> {
     /// Only at a new key: `CapacityOverflow` where the map holds `usize::MAX` pairs, and then always; else `AllocError`, where a
     /// request for memory was refused, which takes an empty map or a full leaf. The map is then as it was, tree and all, and key
     /// and value come back.
+    #[inline(always)]
     pub fn try_insert(&mut self, key: K, value: V) -> Result<Option<V>, (K, V, TryReserveError)>
         ensures old { IfOk result (λ old. old ≡ value_at K.cmp (entries self.old) key) }
         ensures put { IfOk result (λ _. entries self.new ≡ put K.cmp (entries self.old) key value) }
@@ -49,6 +50,7 @@ impl<K: Ord + Drop, V: Drop, A: Handle> BTreeMap<K, V, A> {
     ///
     /// # Errors
     /// As `try_insert`.
+    #[inline(always)]
     pub fn try_insert_counted(
         &mut self,
         key: K,
@@ -78,6 +80,7 @@ impl<K: Ord + Drop, V: Drop, A: Handle> BTreeMap<K, V, A> {
     ///
     /// # Errors
     /// As `try_insert`.
+    #[inline(always)]
     pub fn try_insert_asked(
         &mut self,
         key: K,
@@ -125,6 +128,26 @@ impl<K: Ord + Drop, V: Drop, A: Handle> BTreeMap<K, V, A> {
         ensures error { IfErr result (λ e. MayGrowRefuse (length (entries self.old)) e) }
         ensures only_full { OnErr result (length (entries self.old) < usize.MAX → TakesNode K.cmp key self.old) }
     {
+        self.put_asked(key, value, count, &mut Asked::new())
+    }
+
+    /// `put`, with its requests for memory added to `asked`.
+    ///
+    /// # Errors
+    /// As `put`.
+    pub(crate) fn put_asked(
+        &mut self,
+        key: K,
+        value: V,
+        count: &mut Count,
+        asked: &mut Asked,
+    ) -> Result<(), TryReserveError>
+        ensures put { IfOk result (λ _. entries self.new ≡ put K.cmp (entries self.old) key value) }
+        ensures unchanged { IfErr result (λ _. self.new ≡ self.old) }
+        ensures new_key { IfErr result (λ _. at K.cmp (entries self.old) key ≡ None) }
+        ensures error { IfErr result (λ e. MayGrowRefuse (length (entries self.old)) e) }
+        ensures only_full { OnErr result (length (entries self.old) < usize.MAX → TakesNode K.cmp key self.old) }
+    {
         let mut path = Path::new();
         let Err(gap) = self.locate(&key, &mut path, count) else {
             let _old = self.replace_at(&path, &key, value);
@@ -135,7 +158,7 @@ impl<K: Ord + Drop, V: Drop, A: Handle> BTreeMap<K, V, A> {
             self.insert_in_room(&path, pair, count);
             return Ok(());
         }
-        self.put_growing(&mut path, key, value, count)
+        self.put_growing(&mut path, key, value, count, asked)
     }
 
     // As `insert_growing`, for who needs nothing back. It is not inlined either.
@@ -146,6 +169,7 @@ impl<K: Ord + Drop, V: Drop, A: Handle> BTreeMap<K, V, A> {
         key: K,
         value: V,
         count: &mut Count,
+        asked: &mut Asked,
     ) -> Result<(), TryReserveError>
         requires gap { IsOpenAt K.cmp key self.old path.old }
         ensures put { OnOk result (entries self.new ≡ put K.cmp (entries self.old) key value) }
@@ -153,7 +177,7 @@ impl<K: Ord + Drop, V: Drop, A: Handle> BTreeMap<K, V, A> {
         ensures error { IfErr result (λ e. MayGrowRefuse (length (entries self.old)) e) }
         ensures only_full { OnErr result (length (entries self.old) < usize.MAX → IsFullAt self.old path.old) }
     {
-        match self.insert_growing(path, key, value, count, &mut Asked::new()) {
+        match self.insert_growing(path, key, value, count, asked) {
             Ok(()) => Ok(()),
             Err((_key, _value, error)) => Err(error),
         }

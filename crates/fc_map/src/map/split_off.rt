@@ -6,6 +6,7 @@ ghost use Rattle.fc_base.specs.Parts.{below};
 ghost use Rattle.fc_tree_split.specs.Cut.{IsCutPathIn, IsCutInTwo};
 ghost use Rattle.fc_map.specs.Requests.{border_requests, HasFewRequests};
 ghost use Rattle.fc_map.specs.Entries.{entries, IsSoundMap};
+ghost use Rattle.fc_map.specs.Kept.{blocks_in};
 
 use super::BTreeMap;
 use fc_base::{Asked, Count, Handle, Query, TryReserveError};
@@ -32,7 +33,7 @@ impl<K: Ord + Drop, V: Drop, A: Handle> BTreeMap<K, V, A> {
     }
 
     /// `split_off`, with its requests for memory added to `asked`: none in an empty map, and else one for a leaf and two for a node at each level above; where it
-    /// is refused, no more.
+    /// is refused, no more. Both maps then have no block of memory that was not there or asked for.
     ///
     /// # Errors
     /// As `split_off`.
@@ -51,6 +52,7 @@ impl<K: Ord + Drop, V: Drop, A: Handle> BTreeMap<K, V, A> {
         ensures requests { OnOk result (asked.new.requests ≡ asked.old.requests + border_requests self.old) }
         ensures at_most { asked.new.requests ≤ asked.old.requests + border_requests self.old }
         ensures few { HasFewRequests (length (entries self.old) + 1) asked.old asked.new }
+        ensures blocks { IfOk result (λ rest. asked.old.requests + (blocks_in self.new + blocks_in rest) ≤ asked.new.requests + blocks_in self.old) }
     {
         if self.len == 0 {
             return Ok(BTreeMap::new(self.alloc));
@@ -72,6 +74,7 @@ impl<K: Ord + Drop, V: Drop, A: Handle> BTreeMap<K, V, A> {
         ensures requests { OnOk result (asked.new.requests ≡ asked.old.requests + border_requests self.old) }
         ensures at_most { asked.new.requests ≤ asked.old.requests + border_requests self.old }
         ensures few { HasFewRequests (length (entries self.old) + 1) asked.old asked.new }
+        ensures blocks { IfOk result (λ rest. asked.old.requests + (blocks_in self.new + blocks_in rest) ≤ asked.new.requests + blocks_in self.old) }
     {
         let (rest, moved) = try_split_counted(
             self.alloc,

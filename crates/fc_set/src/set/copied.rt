@@ -7,7 +7,7 @@ ghost use Rattle.fc_set.specs.Copied.{Lends, MayCopyRefuse};
 ghost use Rattle.fc_set.specs.Items.{items, AreAscending};
 
 use super::BTreeSet;
-use fc_base::{Handle, TryClone, TryReserveError};
+use fc_base::{Asked, Handle, TryClone, TryReserveError};
 use fc_map::map::for_sets;
 use fc_tree_build::growing::GrowingBuilder;
 
@@ -69,10 +69,11 @@ fn try_filled<'a, T: Ord + TryClone + 'a, I: Iterator<Item = &'a T> + Drop, A: H
     ensures ascending { IfOk result (λ made. AreAscending T.cmp (items made)) }
     ensures sound { IfOk result (λ made. IsSoundMap made) }
 {
+    let asked = &mut Asked::new();
     let mut builder = GrowingBuilder::new(alloc);
     for item in walk {
         let copy = item.try_clone()?;
-        match builder.push((copy, ())) {
+        match builder.push((copy, ()), asked) {
             Ok(()) => (),
             Err((_pair, error)) => return Err(error),
         }

@@ -5,9 +5,10 @@ ghost use Rattle.fc_base.specs.Growth.{append_error};
 ghost use Rattle.fc_map.specs.Entries.{IsSoundMap};
 ghost use Rattle.fc_vec.specs.Items.{GivesAll, GivesFirst};
 ghost use Rattle.fc_set.specs.Items.{items, AreAscending, extended_items, AreExtendedUpTo};
+ghost use Rattle.fc_map.specs.Loads.{load_requests};
 
 use super::BTreeSet;
-use fc_base::{Handle, TryReserveError};
+use fc_base::{Asked, Handle, TryReserveError};
 use fc_map::map::bulk_load::BulkLoad;
 use fc_map::map::for_sets;
 use fc_vec::TryFromIterator;
@@ -107,6 +108,36 @@ fn take_keys<T: Drop, A: Handle>(pairs: Vec<(T, ()), A>, items: &mut Vec<T, A>)
     }
 }
 
+impl<T: Ord + Drop> BTreeSet<T> {
+    /// `try_from_iterator`, with its requests for memory added to `asked`, as `BTreeMap::try_from_iterator_asked` adds them.
+    ///
+    /// # Errors
+    /// As `try_from_iterator`.
+    pub fn try_from_iterator_asked<I: IntoIterator<Item = T>>(
+        alloc: Global,
+        given: I,
+        asked: &mut Asked,
+    ) -> Result<BTreeSet<T>, TryReserveError>
+        requires ends { IsFiniteIterable I.into_iter_gives I.IntoIter.can_next I.IntoIter.remaining given }
+        ensures made { IfOk result (λ made. (all : List T) × GivesAll I.into_iter_gives I.IntoIter.next_gives given all × (items made ≡ extended_items T.cmp [] all) × (AreAscending T.cmp all → asked.new.requests ≤ asked.old.requests + load_requests (length all))) }
+        ensures error { IfErr result (λ e. (taken : List T) × GivesFirst I.into_iter_gives I.IntoIter.next_gives given taken × ((new : List T) × ((rest : List T) → AreExtendedUpTo T.cmp [] (taken ++ rest) new e)) × (AreAscending T.cmp taken → asked.new.requests ≤ asked.old.requests + load_requests (length taken))) }
+        ensures ascending { IfOk result (λ made. AreAscending T.cmp (items made)) }
+        ensures sound { IfOk result (λ made. IsSoundMap made) }
+    {
+        let mut load = BulkLoad::new(alloc);
+        for item in given {
+            match load.try_put(item, (), asked) {
+                Ok(()) => (),
+                Err(error) => return Err(error),
+            }
+        }
+        match load.flush(asked) {
+            Ok(()) => Ok(BTreeSet { map: load.finish() }),
+            Err(error) => Err(error),
+        }
+    }
+}
+
 /// A set of the items that an iterator gives, put into an empty set in turn: of equal items the first stays. Items out of order are sorted
 /// and merged as by `BTreeMap::try_from_iterator`.
 ///
@@ -127,16 +158,6 @@ impl<T: Ord + Drop> TryFromIterator<T> for BTreeSet<T> {
         ensures ascending { IfOk result (λ made. AreAscending T.cmp (items made)) }
         ensures sound { IfOk result (λ made. IsSoundMap made) }
     {
-        let mut load = BulkLoad::new(alloc);
-        for item in given {
-            match load.try_put(item, ()) {
-                Ok(()) => (),
-                Err(error) => return Err(error),
-            }
-        }
-        match load.flush() {
-            Ok(()) => Ok(BTreeSet { map: load.finish() }),
-            Err(error) => Err(error),
-        }
+        BTreeSet::try_from_iterator_asked(alloc, given, &mut Asked::new())
     }
 }

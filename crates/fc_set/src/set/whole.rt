@@ -59,7 +59,7 @@ impl<T: Ord + Drop, A: Handle> BTreeSet<T, A> {
 
     /// `append_counted`, with its requests for memory added to `asked`: none where one of the two is empty; two for each level between the two roots and two for
     /// a new root where all items of `other` lie after ours; else those for two leaves and for the inner nodes that so many items can need, each with a list;
-    /// where it is refused, no more.
+    /// where it is refused, no more. The set then has no block of memory that was in neither and not asked for.
     ///
     /// # Errors
     /// As `append`.
@@ -84,7 +84,10 @@ impl<T: Ord + Drop, A: Handle> BTreeSet<T, A> {
         ensures no_request { (items self.old ≡ []) ⊎ (items other.old ≡ []) → asked.new.requests ≡ asked.old.requests }
         ensures requests_after { IfOk result (λ _. 0 < length (items self.old) → 0 < length (items other.old) → AreAscending T.cmp (items self.old ++ items other.old) → asked.new.requests ≡ asked.old.requests + join_requests self.old other.old) }
         ensures requests_merged { IfOk result (λ _. ¬ AreAscending T.cmp (items self.old ++ items other.old) → asked.new.requests ≡ asked.old.requests + given_requests (length (items self.old) + length (items other.old))) }
+        ensures at_most_after { AreAscending T.cmp (items self.old ++ items other.old) → asked.new.requests ≤ asked.old.requests + join_requests self.old other.old }
+        ensures at_most_merged { ¬ AreAscending T.cmp (items self.old ++ items other.old) → asked.new.requests ≤ asked.old.requests + given_requests (length (items self.old) + length (items other.old)) }
         ensures at_most { asked.new.requests ≤ asked.old.requests + max (join_requests self.old other.old) (given_requests (length (items self.old) + length (items other.old))) }
+        ensures blocks { IfOk result (λ _. asked.old.requests + (blocks_in self.new + blocks_in other.new) ≤ asked.new.requests + (blocks_in self.old + blocks_in other.old)) }
     {
         self.map.append_asked(&mut other.map, count, asked)
     }
@@ -108,7 +111,7 @@ impl<T: Ord + Drop, A: Handle> BTreeSet<T, A> {
     }
 
     /// `try_split_off`, with its requests for memory added to `asked`: none in an empty set, and else one for a leaf and two for a node at each level above;
-    /// where it is refused, no more.
+    /// where it is refused, no more. Both sets then have no block of memory that was not there or asked for.
     ///
     /// # Errors
     /// As `try_split_off`.
@@ -127,6 +130,7 @@ impl<T: Ord + Drop, A: Handle> BTreeSet<T, A> {
         ensures requests { OnOk result (asked.new.requests ≡ asked.old.requests + border_requests self.old) }
         ensures at_most { asked.new.requests ≤ asked.old.requests + border_requests self.old }
         ensures few { HasFewRequests (length (items self.old) + 1) asked.old asked.new }
+        ensures blocks { IfOk result (λ rest. asked.old.requests + (blocks_in self.new + blocks_in rest) ≤ asked.new.requests + blocks_in self.old) }
     {
         let map = self.map.split_off_asked(item, asked)?;
         Ok(BTreeSet { map })

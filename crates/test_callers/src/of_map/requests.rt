@@ -1,6 +1,6 @@
 use callers_of_map::requests::{
-    copy_below_thousand, insert_below_thousand, put_and_take, put_hundred, take_blocks,
-    write_hundred,
+    copy_below_thousand, cut_and_join, insert_below_thousand, put_and_take, put_hundred,
+    take_blocks, write_hundred,
 };
 use fc_base::{Asked, Count, TryReserveError};
 use fc_budget::Account;
@@ -210,6 +210,33 @@ fn a_pair_is_put_in_and_taken_out_again(rt: HostRuntime) -> Result<(), Fail> {
     let mut map = Numbers::new(rt.alloc());
     put_and_take(&mut map, 7, 70, &mut Asked::new())?;
     assert!(rt; map.is_empty());
+    Ok(())
+}
+
+#[test]
+fn the_requests_of_loads_are_counted(rt: HostRuntime) -> Result<(), Fail> {
+    let alloc = rt.alloc();
+    // example: BTreeMap::try_from_iterator_asked
+    let asked = &mut Asked::new();
+    let pairs = [(1u64, 10u64), (2, 20), (3, 30)];
+    let map = BTreeMap::try_from_iterator_asked(alloc, pairs, asked)?; // one, for a leaf
+    assert_eq!(rt; map.get(&2), Some(&20));
+    // end
+    // example: BTreeSet::try_from_iterator_asked
+    let asked = &mut Asked::new();
+    let set = BTreeSet::try_from_iterator_asked(alloc, [1u64, 2, 3], asked)?; // one, for a leaf
+    assert!(rt; set.len() == 3 && set.contains(&2));
+    // end
+    assert!(rt; map.len() == 3);
+    Ok(())
+}
+
+#[test]
+fn a_map_is_cut_in_two_and_joined_again(rt: HostRuntime) -> Result<(), Fail> {
+    let mut map = Numbers::new(rt.alloc());
+    put_sixteen(&mut map)?;
+    cut_and_join(&mut map, 9, &mut Asked::new())?;
+    assert!(rt; map.len() == 16 && has(&map, 7, 7) && has(&map, 9, 9));
     Ok(())
 }
 

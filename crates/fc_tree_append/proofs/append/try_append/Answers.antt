@@ -7,6 +7,7 @@ use Rattle.fc_tree_node.specs.Tree.{entries, IsSoundMap}
 use Rattle.fc_base.proofs.JoinedLaws.{joined_after}
 use Rattle.fc_tree_build.proofs.StackSizes.{builder_fits}
 use Rattle.fc_tree_append.proofs.JoinFacts.{joined_none}
+use Rattle.fc_tree_node.specs.Blocks.{blocks_in}
 use Rattle.fc_tree_append.proofs.append.try_append.Goals as goal
 
 pub returns-then-our_len-eq0-clause-joined : goal.returns-then-our_len-eq0-clause-joined
@@ -66,3 +67,24 @@ returns-clause-merged g c later =
     let ours = ap (λ o. length (entries o)) c.take.ensures.value in
     let theirs = ap (λ o. length (entries o)) c.take-2.ensures.value in
     omega arith
+
+pub returns-then-their_len-eq0-clause-blocks : goal.returns-then-their_len-eq0-clause-blocks
+returns-then-their_len-eq0-clause-blocks g c = omega arith
+
+pub returns-then-our_len-eq0-clause-blocks : goal.returns-then-our_len-eq0-clause-blocks
+returns-then-our_len-eq0-clause-blocks g c =
+    let ours = ap (λ o. blocks_in o) c.swap.ensures.x_after in
+    let theirs = ap (λ o. blocks_in o) c.swap.ensures.y_after in
+    omega (arith, ours, theirs)
+
+pub returns-then-is_after-clause-blocks : goal.returns-then-is_after-clause-blocks
+returns-then-is_after-clause-blocks g c =
+    let none = ap (λ o. blocks_in o) c.in_ok-try_join.ensures.emptied in
+    omega (arith, none, c.in_ok-try_join.ensures.blocks)
+
+pub returns-clause-blocks : goal.returns-clause-blocks
+returns-clause-blocks g c =
+    let ours = ap (λ o. blocks_in o) c.take.ensures.value in
+    let theirs = ap (λ o. blocks_in o) c.take-2.ensures.value in
+    let none = ap (λ o. blocks_in o) c.take-2.ensures.after in
+    omega (arith, ours, theirs, none, c.in_ok-builder.ensures.blocks, c.merge-root.ensures.blocks)

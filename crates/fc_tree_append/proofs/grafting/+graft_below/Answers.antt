@@ -4,6 +4,8 @@ use Rattle.fc_tree_node.specs.Node.{own_pairs, child_at, pairs_of, IsLevelled, I
 use Rattle.fc_tree_node.proofs.Lent.{lent_is, replaced}
 use Rattle.fc_tree_append.specs.Grafted.{IsGrafted}
 use Rattle.fc_tree_append.proofs.GraftedFacts.{placed_pairs, placed_levels, IsOnBorder, on_border, stay_pairs, stay_levels, put_pairs, put_levels, used_most}
+use Rattle.fc_tree_node.proofs.BlockFacts.{replaced_blocks}
+use Rattle.fc_tree_append.proofs.JoinedBlocks.{beside_blocks, taken_in}
 use Rattle.fc_tree_append.proofs.grafting.+graft_below.Given as given
 use Rattle.fc_tree_append.proofs.grafting.+graft_below.Goals as goal
 use Rattle.fc_tree_append.proofs.grafting.+graft_below.Goals.{After-border_child-place, After-child_in-child}
@@ -91,3 +93,26 @@ pub returns-in-Some-clause-spares : goal.returns-in-Some-clause-spares
 returns-in-Some-clause-spares g t c =
     let most = used_most c.put_inner.result _ _ c.put_inner.ensures.used in
     omega arith
+
+pub returns-then-depth-eq0-clause-blocks : goal.returns-then-depth-eq0-clause-blocks
+returns-then-depth-eq0-clause-blocks g t c =
+    omega (arith, beside_blocks c.args.side c.args.node.now c.args.other c.put_beside.new.node c.put_beside.result c.put_beside.ensures)
+
+pub returns-in-None-clause-blocks : goal.returns-in-None-clause-blocks
+returns-in-None-clause-blocks g t c =
+    let o = on g t (goal.at.returns-in-None-clause-blocks g t c).After-border_child-place c.requires.levels.0 c.requires.levels.1 in
+    let ci = lent g t (goal.at.returns-in-None-clause-blocks g t c).After-child_in-child _ o in
+    let d = c.graft_below-below.new.node in
+    let r = replaced_blocks c.args.node.now _ c.child_in-child.result.now d c.border_child-place.result o.there (replaced _ _ _) ci in
+    let below = c.in-None.ensures in
+    omega (arith, r, below.blocks)
+
+pub returns-in-Some-clause-blocks : goal.returns-in-Some-clause-blocks
+returns-in-Some-clause-blocks g t c =
+    let o = on g t (goal.at.returns-in-Some-clause-blocks g t c).After-border_child-place c.requires.levels.0 c.requires.levels.1 in
+    let ci = lent g t (goal.at.returns-in-Some-clause-blocks g t c).After-child_in-child _ o in
+    let m = replaced c.args.node.now c.border_child-place.result c.graft_below-below.new.node in
+    let r = replaced_blocks c.args.node.now _ c.child_in-child.result.now c.graft_below-below.new.node c.border_child-place.result o.there m ci in
+    let p = c.put_inner.ensures in
+    let b = taken_in _ c.put_inner.new.node c.in-Some.right c.put_inner.result _ _ _ (m.inner o.levels.1) p.children p.inner.0 p.inner.1 p.used in
+    omega (arith, r, b, c.in-Some.ensures.blocks)

@@ -2,6 +2,7 @@ use Rattle.std.proofs.Common.{suc, ◌+◌, ◌∙◌, arith}
 use Rattle.fc_tree_split.proofs.Rebalanced.{within_more}
 use Rattle.fc_tree_insertion.proofs.InsertedPairs.{put_root}
 use Rattle.fc_tree_append.proofs.GraftedFacts.{root_bordered}
+use Rattle.fc_tree_append.proofs.JoinedBlocks.{root_blocks}
 use Rattle.fc_tree_append.proofs.grafting.graft.Goals as goal
 
 pub rebalance-requires : goal.rebalance-requires
@@ -33,3 +34,11 @@ returns-clause-levels g c h l o =
     let k = c.in-Some.ensures.levels h l o in
     c.rebalance-in-Some.ensures.levels (suc (c.args.depth + h))
     (root_bordered c.args.side _ c.grow.new.root c.graft_below.new.node c.in-Some.up c.in-Some.right c.grow.ensures.pairs c.grow.ensures.children k)
+
+pub returns-in-None-clause-blocks : goal.returns-in-None-clause-blocks
+returns-in-None-clause-blocks g c = let below = c.in-None.ensures in omega (arith, below.blocks, c.rebalance.ensures.blocks)
+
+pub returns-clause-blocks : goal.returns-clause-blocks
+returns-clause-blocks g c =
+    let root = root_blocks c.grow.new.root _ _ c.grow.ensures.children in
+    omega (arith, root, c.in-Some.ensures.blocks, c.rebalance-in-Some.ensures.blocks, c.take.ensures.len)

@@ -84,3 +84,13 @@ returns-clause-levels g c =
     let r = c.requires.right in
     within_more _ most_levels _ (omega arith) (c.join_under_root.ensures.levels c.args.their_height
     (subst (λ h. IsLevelled h c.args.left) same c.requires.left.1.1) (c.remove_first-pair.ensures.levels c.args.their_height r.1).0)
+
+pub returns-then-our_height-their_height-clause-blocks : goal.returns-then-our_height-their_height-clause-blocks
+returns-then-our_height-their_height-clause-blocks g c = omega (arith, c.remove_last-pair.ensures.blocks, c.graft.ensures.blocks)
+
+pub returns-then-our_height-their_height-2-clause-blocks : goal.returns-then-our_height-their_height-2-clause-blocks
+returns-then-our_height-their_height-2-clause-blocks g c =
+    omega (arith, c.remove_first-pair.ensures.blocks, c.graft-then-our_height-their_height-2.ensures.blocks)
+
+pub returns-clause-blocks : goal.returns-clause-blocks
+returns-clause-blocks g c = omega (arith, c.remove_first-pair.ensures.blocks, c.take.ensures.len, c.join_under_root.ensures.blocks)

@@ -2,6 +2,8 @@ use Rattle.std.proofs.Common.{◌≡◌, ℕ, suc, ◌∷◌, ◌++◌, length, 
 use Rattle.fc_tree_node.specs.Node.{pairs_of, IsLevelled}
 use Rattle.fc_tree_insertion.proofs.InsertedPairs.{put_root}
 use Rattle.fc_tree_append.proofs.UnderRoot.{IsUnderRoot, under_root_right, under_root_left, under_root_inner, under_root_alike, under_root_room, merged_right}
+use Rattle.fc_tree_node.proofs.SiblingBlocks.{merged_blocks}
+use Rattle.fc_tree_append.proofs.JoinedBlocks.{root_blocks}
 use Rattle.fc_tree_append.proofs.join.join_under_root.Given as given
 use Rattle.fc_tree_append.proofs.join.join_under_root.Goals as goal
 use Rattle.fc_tree_append.proofs.join.join_under_root.Goals.{After-grow}
@@ -61,3 +63,20 @@ pub returns-clause-levels : goal.returns-clause-levels
 returns-clause-levels g c h a b =
     let k = under_root g (goal.at.returns-clause-levels g c).After-grow h a b in
     c.rebalance-2.ensures.levels (suc h) (under_root_right k (omega arith))
+
+pub returns-then-ours-theirs-lt-CAPACITY-clause-blocks : goal.returns-then-ours-theirs-lt-CAPACITY-clause-blocks
+returns-then-ours-theirs-lt-CAPACITY-clause-blocks g c =
+    let at = (goal.at.returns-then-ours-theirs-lt-CAPACITY-clause-blocks g c).After-grow in
+    let k = under_root g at c.requires.levels.0 c.requires.levels.1 c.requires.levels.2 in
+    let own = ap length k.own in
+    let root = root_blocks c.grow.new.root _ _ c.grow.ensures.children in
+    let merged = merged_blocks 0 c.grow.new.root c.merge.new.self (under_root_inner k) c.merge.ensures.inner (omega arith) c.merge.ensures.merged in
+    omega (arith, root, merged, c.rebalance.ensures.blocks)
+
+pub returns-then-ours-lt-MIN_LEN-clause-blocks : goal.returns-then-ours-lt-MIN_LEN-clause-blocks
+returns-then-ours-lt-MIN_LEN-clause-blocks g c =
+    let root = root_blocks c.grow.new.root _ _ c.grow.ensures.children in
+    omega (arith, root, c.rebalance-then-ours-lt-MIN_LEN.ensures.blocks)
+
+pub returns-clause-blocks : goal.returns-clause-blocks
+returns-clause-blocks g c = omega (arith, root_blocks c.grow.new.root _ _ c.grow.ensures.children, c.rebalance-2.ensures.blocks)

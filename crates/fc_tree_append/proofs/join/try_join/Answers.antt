@@ -6,6 +6,7 @@ use Rattle.fc_tree_node.specs.Tree.{entries}
 use Rattle.fc_tree_split.proofs.Cuts.{root_sound}
 use Rattle.fc_tree_append.proofs.Levels.{own_height}
 use Rattle.fc_tree_append.proofs.UnderRoot.{within_few}
+use Rattle.fc_tree_node.specs.Blocks.{blocks_in}
 use Rattle.fc_tree_append.proofs.join.try_join.Given as given
 use Rattle.fc_tree_append.proofs.join.try_join.Goals as goal
 use Rattle.fc_tree_append.proofs.join.try_join.Goals.{After-height-their_height}
@@ -59,3 +60,9 @@ pub returns-clause-requests : goal.returns-clause-requests
 returns-clause-requests g c =
     rw c.in-Some.is (rw c.in-Some-theirs.is (rw (← c.height-our_height.ensures, ← c.height-their_height.ensures)
     (omega (arith, c.in_ok-spares.ensures.requests))))
+
+pub returns-clause-blocks : goal.returns-clause-blocks
+returns-clause-blocks g c =
+    let ours = ap (λ o. blocks_in o) (sym c.take.ensures.value ∙ c.in-Some-take.is) in
+    let theirs = ap (λ o. blocks_in o) (sym c.take-2.ensures.value ∙ c.in-Some-take-2.is) in
+    omega (arith, ours, theirs, c.join.ensures.blocks, c.in_ok-spares.ensures.len, c.in_ok-spares.ensures.requests)

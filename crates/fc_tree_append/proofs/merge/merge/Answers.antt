@@ -53,7 +53,7 @@ loop-their_pairs-init g c =
     let second = subst (λ xs. IsAscending g.K.Ord.cmp xs) (sym c.over-their_pairs.ensures.pairs) c.requires.order.1 in
     let ours = ap length c.over-our_pairs.ensures.pairs in
     let theirs = ap length c.over-their_pairs.ensures.pairs in
-    ((first, second), omega arith, refl, refl, omega arith, omega arith, omega arith, omega arith, refl)
+    ((first, second), omega arith, refl, refl, omega arith, omega arith, omega arith, omega arith, refl, omega arith)
 
 pub is_empty-requires : goal.is_empty-requires
 is_empty-requires g c = leaf_front_fits (param 0 g.row.K) (param 1 g.row.V) g.row.A g.A.Allocator g.met.A.Handle.small
@@ -77,7 +77,7 @@ loop-their_pairs-preserved g c =
     let ours = some_left _ l.our_pairs.pairs c.is_empty.ensures c.loop-their_pairs-test.true in
     let theirs = some_left _ l.their_pairs.pairs c.is_empty-in-loop-their_pairs.ensures c.if-not-is_empty.true in
     let s = c.step.ensures in
-    (s.order, s.room, s.pairs ∙ i.2, s.filled ∙ i.3, omega arith, omega arith, omega arith, omega arith, s.moves ∙ i.8)
+    (s.order, s.room, s.pairs ∙ i.2, s.filled ∙ i.3, omega arith, omega arith, omega arith, omega arith, s.moves ∙ i.8, omega (arith, i.9, s.blocks))
 
 pub push_all-requires : goal.push_all-requires
 push_all-requires g c = (
@@ -115,3 +115,15 @@ returns-clause-comparisons g c =
     let ours = ap length c.over-our_pairs.ensures.pairs in
     let theirs = ap length c.over-their_pairs.ensures.pairs in
     omega arith
+
+pub returns-clause-blocks : goal.returns-clause-blocks
+returns-clause-blocks g c =
+    omega (
+      arith,
+      c.loop-their_pairs.invariant.9,
+      c.over-our_pairs.ensures.blocks,
+      c.over-their_pairs.ensures.blocks,
+      c.push_all.ensures.blocks,
+      c.push_all-2.ensures.blocks,
+      c.finish.ensures.blocks,
+    )

@@ -17,6 +17,7 @@ invariant-loop-their_pairs g l =
     × (l.initial.count.comparisons + length l.initial.our_pairs.pairs ≤ l.count.comparisons + length l.our_pairs.pairs)
     × (l.initial.count.comparisons + length l.initial.their_pairs.pairs ≤ l.count.comparisons + length l.their_pairs.pairs)
     × (l.count.moves ≡ l.initial.count.moves)
+    × (l.builder.blocks + l.our_pairs.blocks + l.their_pairs.blocks ≤ l.initial.builder.blocks + l.initial.our_pairs.blocks + l.initial.their_pairs.blocks)
 
 abbrev pub decreases-loop-their_pairs : goal.decreases-loop-their_pairs
 decreases-loop-their_pairs g l = length l.our_pairs.pairs + length l.their_pairs.pairs

@@ -11,3 +11,9 @@ pub returns-clause-room : goal.returns-clause-room
 returns-clause-room g c other few all room =
     let one = ap length c.next_leaf-pair.ensures.pairs in
     omega arith
+
+pub returns-then-in_leaf-gt0-clause-blocks : goal.returns-then-in_leaf-gt0-clause-blocks
+returns-then-in_leaf-gt0-clause-blocks g c = omega (arith, c.next_in_leaf.ensures.blocks)
+
+pub returns-clause-blocks : goal.returns-clause-blocks
+returns-clause-blocks g c = omega (arith, c.next_leaf-pair.ensures.blocks, c.give_leaf.ensures.blocks)

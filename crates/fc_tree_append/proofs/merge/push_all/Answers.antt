@@ -33,6 +33,7 @@ loop-pairs-preserved g c =
       gone_over c.loop-pairs.builder.pairs _ _ c.loop-pairs.pairs.pairs _ _ n.pairs more i.3,
       omega arith,
       λ other few all room. (let was = i.5 other few all room in let left = n.room other few was.0 was.1 in (omega arith, omega arith)),
+      omega (arith, i.6, n.blocks, c.push.ensures.blocks),
     )
 
 pub returns-clause-pairs : goal.returns-clause-pairs
@@ -42,3 +43,6 @@ returns-clause-pairs g c =
 
 pub returns-clause-room : goal.returns-clause-room
 returns-clause-room g c other few all room = let left = c.loop-pairs.invariant.5 other few all room in omega arith
+
+pub returns-clause-blocks : goal.returns-clause-blocks
+returns-clause-blocks g c = omega (arith, c.loop-pairs.invariant.6)

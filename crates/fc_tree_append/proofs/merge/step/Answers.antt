@@ -109,3 +109,12 @@ returns-in-Greater-clause-filled g c =
     let pair = c.next-pair-in-Greater.result in
     let put = ap length (c.push-in-Greater.ensures.pairs ∙ ap (λ zs. zs ++ pair ∷ []) c.next-pair-in-Greater.ensures.kept) ∙ length-append _ (pair ∷ []) in
     omega (arith, c.next-pair-in-Greater.ensures.limit, c.push-in-Greater.ensures.limit)
+
+pub returns-in-Less-clause-blocks : goal.returns-in-Less-clause-blocks
+returns-in-Less-clause-blocks g c = omega (arith, c.next-pair.ensures.blocks, c.push.ensures.blocks)
+
+pub returns-in-Equal-clause-blocks : goal.returns-in-Equal-clause-blocks
+returns-in-Equal-clause-blocks g c = omega (arith, c.next.ensures.blocks, c.next-pair-in-Equal.ensures.blocks, c.push-in-Equal.ensures.blocks)
+
+pub returns-in-Greater-clause-blocks : goal.returns-in-Greater-clause-blocks
+returns-in-Greater-clause-blocks g c = omega (arith, c.next-pair-in-Greater.ensures.blocks, c.push-in-Greater.ensures.blocks)

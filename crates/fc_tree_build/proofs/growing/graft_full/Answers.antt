@@ -1,4 +1,4 @@
-use Rattle.std.proofs.Common.{◌++◌, ◌∷◌, [], ap, ◌∙◌}
+use Rattle.std.proofs.Common.{◌++◌, ◌∷◌, [], ap, ◌∙◌, arith}
 use denote.Param.{param}
 use Rattle.fc_tree_node.specs.Node.{pairs_of}
 use Rattle.fc_tree_drain.specs.Opened.{before_back}
@@ -15,3 +15,6 @@ put_in_room-requires g c =
 pub returns-in-Ok-clause-pairs : goal.returns-in-Ok-clause-pairs
 returns-in-Ok-clause-pairs g c =
     c.put_in_room.ensures.pairs ∙ ap (λ n. before_back c.args.spine.now ++ (pairs_of n ++ c.args.pair ∷ [])) c.replace-leaf.ensures.value
+
+pub returns-in-Ok-clause-short : goal.returns-in-Ok-clause-short
+returns-in-Ok-clause-short g c d long few = omega (arith, c.put_in_room.ensures.length, long)

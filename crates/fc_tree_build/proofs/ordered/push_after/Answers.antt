@@ -1,4 +1,5 @@
-use Rattle.std.proofs.Common.{sym, ◌∙◌}
+use Rattle.std.proofs.Common.{length, sym, ◌∙◌, arith}
+use Rattle.fc_tree_build.proofs.LoadFacts.{load_grows}
 use Rattle.fc_tree_build.proofs.OrderedFacts.{put_after, ascending_after, push_refusal}
 use Rattle.fc_tree_build.proofs.ordered.push_after.Goals as goal
 
@@ -19,3 +20,6 @@ pub returns-in-Err-clause-error : goal.returns-in-Err-clause-error
 returns-in-Err-clause-error g c =
     push_refusal c.args.tree.now.pairs c.len.result c.in-Err.error c.len.ensures c.if-len-eq18446744073709551615.false c.in-Err.ensures.error
     c.in-Err.ensures.full
+
+pub returns-then-len-eq18446744073709551615-clause-at_most : goal.returns-then-len-eq18446744073709551615-clause-at_most
+returns-then-len-eq18446744073709551615-clause-at_most g c = let more = load_grows (length c.args.tree.now.pairs) in omega (arith, more)

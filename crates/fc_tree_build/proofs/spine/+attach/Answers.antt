@@ -5,6 +5,8 @@ use Rattle.fc_tree_build.specs.Spine.{IsOpenEnd}
 use Rattle.fc_tree_build.specs.Spares.{needed}
 use Rattle.fc_tree_build.proofs.SpineFacts.{child_room, end_grown, end_pairs, spine_pairs, spine_pushed, worth_pushed, count_pushed, length_pushed}
 use Rattle.fc_tree_build.proofs.SpineFacts.{closed_sound, closed_pairs, carried_pairs, some_needed, used_here, not_empty, spare_taken, empty_end}
+use Rattle.fc_tree_drain.proofs.OpenedBlocks.{pushed_blocks}
+use Rattle.fc_tree_build.proofs.BuiltBlocks.{spare_blocks, put_blocks, pair_blocks}
 use Rattle.fc_tree_build.proofs.spine.+attach.Given as given
 use Rattle.fc_tree_build.proofs.spine.+attach.Goals as goal
 use Rattle.fc_tree_build.proofs.spine.+attach.Goals.{After-open_end-node, After-len, After-take_spare}
@@ -160,3 +162,20 @@ returns-clause-short g t c b long few =
     let s = c.attach.ensures.short (b - 1) (omega arith) (omega arith) in
     let l = length_pushed _ _ _ c.push-2.ensures in
     omega arith
+
+pub returns-then-len-lt-CAPACITY-clause-blocks : goal.returns-then-len-lt-CAPACITY-clause-blocks
+returns-then-len-lt-CAPACITY-clause-blocks g t c =
+    let o = end g t (goal.at.returns-then-len-lt-CAPACITY-clause-blocks g t c).After-open_end-node in
+    let child = put_blocks c.open_end-node.result _ c.args.subtree o.1 c.put_child.ensures.inner c.put_child.ensures.children in
+    let pair = pair_blocks _ c.put_pair.new.node c.put_pair.ensures.children c.put_pair.ensures.leaf in
+    let pushed = pushed_blocks _ _ _ c.push.ensures in
+    omega (arith, child, pair, pushed, c.open_end-node.ensures.blocks)
+
+pub returns-clause-blocks : goal.returns-clause-blocks
+returns-clause-blocks g t c =
+    let o = end g t (goal.at.returns-clause-blocks g t c).After-open_end-node in
+    let child = put_blocks c.open_end-node.result _ c.args.subtree o.1 c.put_child.ensures.inner c.put_child.ensures.children in
+    let spare = spare_blocks _ (empty g t (goal.at.returns-clause-blocks g t c).After-take_spare) in
+    let one = length_pushed _ _ _ c.take_spare.ensures.items in
+    let pushed = pushed_blocks _ _ _ c.push-2.ensures in
+    omega (arith, child, spare, one, pushed, c.open_end-node.ensures.blocks, c.attach.ensures.blocks)

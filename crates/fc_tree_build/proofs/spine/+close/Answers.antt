@@ -1,7 +1,11 @@
-use Rattle.std.proofs.Common.{rules, ℕ, suc, ◌<◌, length, sym, subst, arith}
+use Rattle.std.proofs.Common.{rules, ℕ, suc, ◌<◌, length, sym, ap, subst, arith}
+use Rattle.std.proofs.lemmas.List.{nil_from_length}
 use Rattle.fc_tree_node.specs.Bordered.{IsRightBordered}
 use Rattle.fc_tree_build.specs.Spine.{IsOpenEnd, IsSpine}
 use Rattle.fc_tree_build.proofs.SpineFacts.{spine_popped, child_room, length_pushed, level_pushed, closed_bordered, closed_pairs, closing_pairs}
+use Rattle.fc_tree_node.proofs.BlockFacts.{all_blocks}
+use Rattle.fc_tree_drain.proofs.OpenedBlocks.{pushed_blocks}
+use Rattle.fc_tree_build.proofs.BuiltBlocks.{put_blocks}
 use Rattle.fc_tree_build.proofs.spine.+close.Given as given
 use Rattle.fc_tree_build.proofs.spine.+close.Goals as goal
 use Rattle.fc_tree_build.proofs.spine.+close.Goals.{After-pop-node}
@@ -37,3 +41,15 @@ returns-clause-levels g t c h s r =
     let p = spine_popped h _ _ _ c.pop-node.ensures s in
     let closed = closed_bordered h _ _ _ p.0 c.put_child.ensures.pairs c.put_child.ensures.children r in
     subst (λ k. IsRightBordered k c.close.result) (sym (level_pushed h _ _ _ c.pop-node.ensures)) (c.close.ensures.levels (suc h) p.1 closed)
+
+pub returns-then-len-eq0-clause-blocks : goal.returns-then-len-eq0-clause-blocks
+returns-then-len-eq0-clause-blocks g t c =
+    let none = ap (λ s. all_blocks s) (nil_from_length c.args.spine.now (omega arith)) in
+    omega (arith, none)
+
+pub returns-clause-blocks : goal.returns-clause-blocks
+returns-clause-blocks g t c =
+    let o = (end g t (goal.at.returns-clause-blocks g t c).After-pop-node).0 in
+    let child = put_blocks c.pop-node.result _ c.args.last o.1 c.put_child.ensures.inner c.put_child.ensures.children in
+    let popped = pushed_blocks _ c.args.spine.now _ c.pop-node.ensures in
+    omega (arith, child, popped, c.close.ensures.blocks)

@@ -3,7 +3,10 @@ use Rattle.std.proofs.lemmas.List.{nil_from_length}
 use Rattle.fc_tree_drain.proofs.Opening.{back_push}
 use Rattle.fc_tree_build.specs.Spine.{IsSpine}
 use Rattle.fc_tree_build.specs.Spares.{worth}
-use Rattle.fc_tree_build.proofs.SpineFacts.{spare_taken, empty_at_back, empty_end, spine_popped, worth_pushed, count_pushed, needed_full, needed_room}
+use Rattle.fc_tree_build.proofs.SpineFacts.{spare_taken, empty_at_back, empty_end, spine_popped, worth_pushed, count_pushed, length_pushed}
+use Rattle.fc_tree_build.proofs.SpineFacts.{needed_full, needed_room}
+use Rattle.fc_tree_drain.proofs.OpenedBlocks.{pushed_blocks}
+use Rattle.fc_tree_build.proofs.BuiltBlocks.{spare_blocks}
 use Rattle.fc_tree_build.proofs.spine.open_end.Goals as goal
 
 pub returns-then-len-eq0-clause-pairs : goal.returns-then-len-eq0-clause-pairs
@@ -48,3 +51,12 @@ returns-clause-full g c some full = needed_full _ _ _ c.pop.ensures full
 
 pub returns-clause-room : goal.returns-clause-room
 returns-clause-room g c some room = needed_room _ _ _ c.pop.ensures room
+
+pub returns-then-len-eq0-clause-blocks : goal.returns-then-len-eq0-clause-blocks
+returns-then-len-eq0-clause-blocks g c =
+    let spare = spare_blocks _ (spare_taken _ _ _ c.take_spare.ensures.items c.requires.empty).0 in
+    let one = length_pushed _ _ _ c.take_spare.ensures.items in
+    omega (arith, spare, one)
+
+pub returns-clause-blocks : goal.returns-clause-blocks
+returns-clause-blocks g c = omega (arith, pushed_blocks _ c.args.spine.now _ c.pop.ensures)

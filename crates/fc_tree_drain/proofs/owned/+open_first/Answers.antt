@@ -3,6 +3,7 @@ use Rattle.std.proofs.lemmas.List.{nil_from_length}
 use Rattle.fc_base.specs.Sizes.{most_levels}
 use Rattle.fc_tree_drain.specs.Opened.{after_front}
 use Rattle.fc_tree_drain.proofs.Opening.{under_room, under_levels, under_first, first_opened, leaf_own, under_few, first_even, even_push}
+use Rattle.fc_tree_drain.proofs.OpenedBlocks.{some_block, taken_blocks, pushed_blocks}
 use Rattle.fc_tree_drain.proofs.owned.+open_first.Goals as goal
 
 pub returns-then-child_count-eq0-clause-pairs : goal.returns-then-child_count-eq0-clause-pairs
@@ -41,3 +42,12 @@ pub returns-clause-even : goal.returns-clause-even
 returns-clause-even g t c a =
     let q = c.take_first_child-child.ensures in
     c.open_first.ensures.even (even_push c.args.stack.now _ _ c.push.ensures (first_even c.args.node _ _ _ c.requires q.children q.pairs) a)
+
+pub returns-then-child_count-eq0-clause-blocks : goal.returns-then-child_count-eq0-clause-blocks
+returns-then-child_count-eq0-clause-blocks g t c = omega (arith, some_block c.args.node)
+
+pub returns-clause-blocks : goal.returns-clause-blocks
+returns-clause-blocks g t c =
+    let taken = taken_blocks c.args.node _ _ c.take_first_child-child.ensures.children in
+    let pushed = pushed_blocks c.args.stack.now _ _ c.push.ensures in
+    omega (arith, taken, pushed, c.open_first.ensures.blocks)

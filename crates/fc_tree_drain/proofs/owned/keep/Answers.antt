@@ -1,5 +1,6 @@
 use Rattle.std.proofs.Common.{rules, arith}
 use Rattle.fc_tree_drain.proofs.Opening.{keep_room, kept, dropped, empty_front, empty_back, front_push, back_push, even_push}
+use Rattle.fc_tree_drain.proofs.OpenedBlocks.{pushed_blocks}
 use Rattle.fc_tree_drain.proofs.owned.keep.Goals as goal
 
 pub returns-then-len-eq0-clause-front : goal.returns-then-len-eq0-clause-front
@@ -28,3 +29,9 @@ returns-clause-levels g c h o f =
 
 pub returns-clause-even : goal.returns-clause-even
 returns-clause-even g c l a = even_push c.args.stack.now _ _ c.push.ensures l a
+
+pub returns-then-len-eq0-clause-blocks : goal.returns-then-len-eq0-clause-blocks
+returns-then-len-eq0-clause-blocks g c = omega arith
+
+pub returns-clause-blocks : goal.returns-clause-blocks
+returns-clause-blocks g c = omega (arith, pushed_blocks c.args.stack.now _ _ c.push.ensures)

@@ -1,6 +1,7 @@
 use Rattle.std.proofs.Common.{rules, arith, length, ◌∷◌, ◌++◌, sym, ap, ◌∙◌}
 use Rattle.fc_tree_drain.specs.Opened.{after_front}
 use Rattle.fc_tree_drain.proofs.Opening.{top_some, IsGiven, given_leaf, given_first, given_under, kept_levels, gave_first, gave_first_alone, even_pop}
+use Rattle.fc_tree_drain.proofs.OpenedBlocks.{taken_blocks, pushed_blocks}
 use Rattle.fc_tree_drain.proofs.owned.pop_first_pair.Given as given
 use Rattle.fc_tree_drain.proofs.owned.pop_first_pair.Goals as goal
 use Rattle.fc_tree_drain.proofs.owned.pop_first_pair.Goals.{After-take_first_child-child}
@@ -66,3 +67,16 @@ returns-clause-even g c a =
     let child = ap length q.children in
     let same = ap length q.pairs in
     (c.open_first.ensures.even (c.keep-2.ensures.even (omega arith) even.0), c.open_first.ensures.some)
+
+pub returns-then-child_count-eq0-clause-blocks : goal.returns-then-child_count-eq0-clause-blocks
+returns-then-child_count-eq0-clause-blocks g c a =
+    let some = top_some _ _ _ c.requires.levels c.pop-node.ensures in
+    let same = (even_pop _ _ _ c.pop-node.ensures a).1 in
+    let child = ap length c.take_first_pair-pair.ensures.children in
+    absurd (omega arith)
+
+pub returns-clause-blocks : goal.returns-clause-blocks
+returns-clause-blocks g c a =
+    let popped = pushed_blocks _ c.args.stack.now _ c.pop-node.ensures in
+    let taken = taken_blocks c.pop-node.result _ _ (sym c.take_first_pair-pair.ensures.children ∙ c.take_first_child-child.ensures.children) in
+    omega (arith, popped, taken, c.keep-2.ensures.blocks, c.open_first.ensures.blocks)

@@ -5,7 +5,7 @@ use Rattle.fc_tree_node.proofs.Lent.{above, IsLent, replaced}
 use Rattle.fc_tree_removal.proofs.Removed.{leaf_shrunk, none_leaf, lent_sound, sound, lent_short, lent_lost, lent_rebalanced}
 use Rattle.fc_tree_removal.proofs.Removed.{last_removed, last_taken, fewer_last}
 use Rattle.fc_tree_node.proofs.BlockFacts.{blocks_leaf}
-use Rattle.fc_tree_removal.proofs.RemovedBlocks.{lent_blocks}
+use Rattle.fc_tree_node.proofs.SiblingBlocks.{lent_blocks}
 use Rattle.fc_tree_removal.proofs.first_last.+remove_last.Given as given
 use Rattle.fc_tree_removal.proofs.first_last.+remove_last.Goals as goal
 use Rattle.fc_tree_removal.proofs.first_last.+remove_last.Goals.{After-child_in}

@@ -2,7 +2,7 @@ use Rattle.std.proofs.Common.{ℕ, get_or, ◌∙◌, arith}
 use Rattle.fc_tree_node.specs.Node.{IsLevelled, IsSound}
 use Rattle.fc_tree_node.proofs.Lent.{IsLent, replaced}
 use Rattle.fc_tree_removal.proofs.Removed.{lent_onward, sound, lent_short, lent_lost, lent_rebalanced, IsPlaceStep, place_step, below_removed}
-use Rattle.fc_tree_removal.proofs.RemovedBlocks.{lent_blocks}
+use Rattle.fc_tree_node.proofs.SiblingBlocks.{lent_blocks}
 use Rattle.fc_tree_removal.proofs.removal.+remove_at.Given as given
 use Rattle.fc_tree_removal.proofs.removal.+remove_at.Goals as goal
 use Rattle.fc_tree_removal.proofs.removal.+remove_at.Goals.{After-child_in}

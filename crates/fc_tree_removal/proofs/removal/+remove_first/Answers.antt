@@ -4,7 +4,7 @@ use Rattle.fc_tree_node.specs.Node.{IsLevelled, IsSound}
 use Rattle.fc_tree_node.proofs.Lent.{above, IsLent, replaced}
 use Rattle.fc_tree_removal.proofs.Removed.{none_leaf, lent_sound, sound, lent_short, lent_lost, lent_rebalanced, first_removed}
 use Rattle.fc_tree_node.proofs.BlockFacts.{blocks_leaf}
-use Rattle.fc_tree_removal.proofs.RemovedBlocks.{lent_blocks}
+use Rattle.fc_tree_node.proofs.SiblingBlocks.{lent_blocks}
 use Rattle.fc_tree_removal.proofs.removal.+remove_first.Given as given
 use Rattle.fc_tree_removal.proofs.removal.+remove_first.Goals as goal
 use Rattle.fc_tree_removal.proofs.removal.+remove_first.Goals.{After-child_in}

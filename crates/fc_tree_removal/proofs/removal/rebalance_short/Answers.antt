@@ -5,7 +5,7 @@ use Rattle.fc_tree_node.specs.Node.{own_pairs, child_at}
 use Rattle.fc_tree_removal.specs.Rebalancing.{together, IsShortAt}
 use Rattle.fc_tree_removal.proofs.Rebalanced.{IsPairAt, pair_short, pair_alike, merged_rebalanced, stolen_rebalanced}
 use Rattle.fc_tree_node.proofs.Sizes.{level_size}
-use Rattle.fc_tree_removal.proofs.RemovedBlocks.{merged_blocks, shared_blocks}
+use Rattle.fc_tree_node.proofs.SiblingBlocks.{merged_blocks, shared_blocks}
 use Rattle.fc_tree_removal.proofs.removal.rebalance_short.Given as given
 use Rattle.fc_tree_removal.proofs.removal.rebalance_short.Goals as goal
 use Rattle.fc_tree_removal.proofs.removal.rebalance_short.Goals.{After-saturating_sub-place, After-len-2}

@@ -5,7 +5,8 @@ use Rattle.fc_tree_node.proofs.Lent.{above, IsLent, replaced}
 use Rattle.fc_tree_removal.proofs.Removed.{leaf_shrunk, none_leaf, get_there, lent_sound, sound, IsOwnSet, own_set}
 use Rattle.fc_tree_removal.proofs.Removed.{own_short, own_lost, own_rebalanced, own_replaced}
 use Rattle.fc_tree_node.proofs.BlockFacts.{blocks_leaf}
-use Rattle.fc_tree_removal.proofs.RemovedBlocks.{lent_blocks, kept_blocks}
+use Rattle.fc_tree_node.proofs.SiblingBlocks.{lent_blocks}
+use Rattle.fc_tree_removal.proofs.RemovedBlocks.{kept_blocks}
 use Rattle.fc_tree_removal.proofs.removal.remove_own.Given as given
 use Rattle.fc_tree_removal.proofs.removal.remove_own.Goals as goal
 use Rattle.fc_tree_removal.proofs.removal.remove_own.Goals.{After-child_in, After-replace_pair-pair}

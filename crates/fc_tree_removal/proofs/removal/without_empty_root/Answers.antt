@@ -1,7 +1,7 @@
 use Rattle.std.proofs.Common.{arith}
 use Rattle.fc_tree_node.proofs.Heir.{levelled_formed, heir_pairs}
 use Rattle.fc_tree_removal.proofs.Removed.{heir_left}
-use Rattle.fc_tree_removal.proofs.RemovedBlocks.{heir_blocks}
+use Rattle.fc_tree_node.proofs.SiblingBlocks.{heir_blocks}
 use Rattle.fc_tree_removal.proofs.removal.without_empty_root.Goals as goal
 
 pub into_only_child-requires-clause-formed : goal.into_only_child-requires-clause-formed

@@ -4,12 +4,13 @@ use Rattle.fc_tree_node.specs.Node.{own_pairs, children_of, IsLevelled}
 use Rattle.fc_tree_node.specs.Path.{IsPath}
 use Rattle.fc_tree_node.proofs.Lists.{length_take}
 use Rattle.fc_tree_node.proofs.PathSteps.{more_steps}
-use Rattle.fc_tree_node.proofs.Lent.{replaced}
+use Rattle.fc_tree_node.proofs.Lent.{lent_is, replaced}
 use Rattle.fc_tree_node.proofs.Formed.{alike_both, alike_back}
 use Rattle.fc_tree_split.specs.Cut.{IsEmpty}
 use Rattle.fc_tree_node.proofs.MeasureFacts.{levelled_height}
 use Rattle.fc_tree_split.proofs.Cuts.{IsForked, forked, IsForkedOn, forked_on, end_front, end_back, end_front_levels, end_back_levels, fork_front, fork_back}
 use Rattle.fc_tree_split.proofs.Cuts.{fork_front_levels, fork_back_levels}
+use Rattle.fc_tree_split.proofs.SplitBlocks.{empty_alone, forked_blocks, moved_blocks}
 use Rattle.fc_tree_split.proofs.cutting.+cut_into.Given as given
 use Rattle.fc_tree_split.proofs.cutting.+cut_into.Goals as goal
 use Rattle.fc_tree_split.proofs.cutting.+cut_into.Goals.{After-child_in-other}
@@ -119,3 +120,26 @@ returns-clause-back_levels g t c h l b =
     let d = fork_on g t a h l b in
     let set = replaced c.move_suffix.new.other 0 c.cut_into.new.right in
     fork_back_levels h c.args.path.now _ _ _ f _ _ set (c.cut_into.ensures.back_levels f.below d.levels d.empty)
+
+pub returns-then-path-eq1-clause-blocks : goal.returns-then-path-eq1-clause-blocks
+returns-then-path-eq1-clause-blocks g t c =
+    let m = c.move_suffix.ensures in
+    let w = c.requires.levels in
+    moved_blocks (get_or c.args.path.now 0 0) _ _ _ _ (empty_alone w.0 _ _ w.2 w.3) m.alike.0 m.alike.1 m.children m.other_children
+
+pub returns-clause-blocks : goal.returns-clause-blocks
+returns-clause-blocks g t c =
+    let m = c.move_suffix.ensures in
+    let w = c.requires.levels in
+    let a = (goal.at.returns-clause-blocks g t c).After-child_in-other in
+    let f = fork g t a w.0 w.2 w.3 in
+    let d = fork_on g t a w.0 w.2 w.3 in
+    let inner : length (children_of c.move_suffix.new.self) ≡ length (own_pairs c.move_suffix.new.self) + 1 = f.left_inner in
+    let other : length (children_of c.move_suffix.new.other) ≡ length (own_pairs c.move_suffix.new.other) + 1 = f.right_inner in
+    let long = ap length f.left_own ∙ length_take (get_or c.args.path.now 0 0) (own_pairs c.args.node.now) f.le in
+    let moved = moved_blocks (get_or c.args.path.now 0 0) _ _ _ _ (empty_alone w.0 _ _ w.2 w.3) m.alike.0 m.alike.1 m.children m.other_children in
+    let forked = forked_blocks c.move_suffix.new.self c.move_suffix.new.other _ _ _ c.child_in-other.result.now c.cut_into.new.node c.cut_into.new.right
+    (get_or c.args.path.now 0 0) (omega (arith, inner, long)) (omega (arith, other)) (replaced _ _ _) (replaced _ _ _) d.is
+    (lent_is c.move_suffix.new.other 0 c.child_in-other.result.now f.right_inner (omega arith) c.child_in-other.ensures.value) c.cut_into.ensures.blocks
+    in
+    omega (arith, moved, forked)

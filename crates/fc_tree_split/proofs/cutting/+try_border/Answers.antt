@@ -1,8 +1,10 @@
-use Rattle.std.proofs.Common.{◌<◌, rules, ap, sym, subst, arith}
+use Rattle.std.proofs.Common.{◌<◌, length, rules, ap, sym, subst, arith}
 use Rattle.std.proofs.lemmas.Bool.{false≢true}
 use Rattle.fc_tree_node.specs.Node.{IsLevelled}
 use Rattle.fc_tree_node.specs.Measures.{height_of}
 use Rattle.fc_tree_split.proofs.Cuts.{empty_made, empty_above, first_child, child_lower, anyway, leaf_low}
+use Rattle.fc_tree_node.proofs.BlockFacts.{all_blocks, blocks_inner}
+use Rattle.fc_tree_split.proofs.SplitBlocks.{leaf_border}
 use Rattle.fc_tree_split.proofs.cutting.+try_border.Goals as goal
 
 pub returns-then-is_leaf-clause-ok : goal.returns-then-is_leaf-clause-ok
@@ -36,3 +38,18 @@ returns-clause-requests g t c =
 
 pub returns-clause-at_most : goal.returns-clause-at_most
 returns-clause-at_most g t c = let e = returns-clause-requests g t c in omega (arith, e)
+
+pub returns-then-is_leaf-clause-blocks : goal.returns-then-is_leaf-clause-blocks
+returns-then-is_leaf-clause-blocks g t c = leaf_border c.args.node.now c.try_leaf.result (c.if-is_leaf.ensures.0 (search rules)) c.try_leaf.ensures.ok
+
+pub returns-clause-blocks : goal.returns-clause-blocks
+returns-clause-blocks g t c =
+    let one = ap length c.adopt.ensures.children in
+    let all = ap all_blocks c.adopt.ensures.children in
+    omega (
+      arith,
+      child_lower c.requires.0 c.args.node.now c.child.result.now (λ l. false≢true (c.if-is_leaf.ensures.1 l)) c.requires.1 c.child.ensures,
+      blocks_inner c.adopt.new.self (omega (arith, one)),
+      all,
+      c.in_ok-below.ensures.blocks,
+    )

@@ -1,8 +1,9 @@
-use Rattle.std.proofs.Common.{◌<◌, rules, arith, ◌∙◌}
+use Rattle.std.proofs.Common.{◌<◌, Some, rules, arith, ◌∙◌}
 use Rattle.fc_tree_node.specs.Measures.{height_of}
 use Rattle.fc_tree_split.proofs.Heights.{bordered_height}
 use Rattle.fc_tree_node.proofs.Heir.{levelled_formed, only_pairs, heir_pairs}
 use Rattle.fc_tree_split.proofs.Rebalanced.{bordered_formed, heir_levels, within_more, heir_bordered}
+use Rattle.fc_tree_node.proofs.SiblingBlocks.{heir_blocks}
 use Rattle.fc_tree_split.proofs.rebalancing.+rebalance.Goals as goal
 
 pub into_only_child-requires-clause-formed : goal.into_only_child-requires-clause-formed
@@ -36,3 +37,13 @@ returns-clause-pairs g t c =
 pub returns-clause-levels : goal.returns-clause-levels
 returns-clause-levels g t c h b =
     heir_levels _ h c.rebalance_below.new.node c.into_only_child-2.ensures (c.rebalance_below.ensures.levels h b).0
+
+pub returns-in-Some-clause-blocks : goal.returns-in-Some-clause-blocks
+returns-in-Some-clause-blocks g t c =
+    let heir = heir_blocks (Some c.in-Some.child) c.args.root c.in-Some.ensures in
+    omega (arith, heir, c.rebalance.ensures.blocks)
+
+pub returns-clause-blocks : goal.returns-clause-blocks
+returns-clause-blocks g t c =
+    let heir = heir_blocks _ c.rebalance_below.new.node c.into_only_child-2.ensures in
+    omega (arith, heir, c.rebalance_below.ensures.blocks)

@@ -7,6 +7,7 @@ use Rattle.fc_tree_split.proofs.Borders.{border_opened}
 use Rattle.fc_tree_node.specs.Measures.{height_of}
 use Rattle.fc_tree_split.proofs.Heights.{bordered_height}
 use Rattle.fc_tree_split.proofs.Rebalanced.{above_leaf, HasSparePairAbove, IsSpare, with_spare_lent, rebalanced_levels}
+use Rattle.fc_tree_node.proofs.SiblingBlocks.{lent_blocks}
 use Rattle.fc_tree_split.proofs.rebalancing.+rebalance_below.Given as given
 use Rattle.fc_tree_split.proofs.rebalancing.+rebalance_below.Goals as goal
 use Rattle.fc_tree_split.proofs.rebalancing.+rebalance_below.Goals.{Else-is_leaf, After-child_in}
@@ -54,3 +55,10 @@ returns-clause-levels g t c h b =
     rebalanced_levels c.args.side h c.args.node.now c.ensure_spare_pair.new.node _ c.child_in.result.now _ _ l c.border_child-place.ensures.value
     (replaced _ _ _)
     (c.rebalance_below.ensures.levels l.below l.child.0)
+
+pub returns-clause-blocks : goal.returns-clause-blocks
+returns-clause-blocks g t c =
+    let at = goal.at.returns-clause-blocks g t c in
+    let l = lending g t at.After-child_in _ (above g t at.Else-is_leaf _ c.requires.bordered.1) in
+    let b = lent_blocks c.ensure_spare_pair.new.node _ _ _ c.border_child-place.result l.inner l.place (replaced _ _ _) l.is c.rebalance_below.ensures.blocks in
+    omega (arith, b, c.ensure_spare_pair.ensures.blocks)

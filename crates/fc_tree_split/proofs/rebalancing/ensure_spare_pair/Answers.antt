@@ -6,6 +6,7 @@ use Rattle.fc_tree_node.proofs.Sizes.{level_size}
 use Rattle.fc_tree_split.specs.Border.{IsBordered, border_place}
 use Rattle.fc_tree_split.proofs.Borders.{LeftOf, RightOf}
 use Rattle.fc_tree_split.proofs.SparePairs.{IsPairAt, both_of, left_share, pair_opened, pair_alike, merged_with_spare, shared_with_spare}
+use Rattle.fc_tree_node.proofs.SiblingBlocks.{merged_blocks, shared_blocks}
 use Rattle.fc_tree_split.proofs.rebalancing.ensure_spare_pair.Given as given
 use Rattle.fc_tree_split.proofs.rebalancing.ensure_spare_pair.Goals as goal
 use Rattle.fc_tree_split.proofs.rebalancing.ensure_spare_pair.Goals.{After-saturating_sub-place, After-len-2}
@@ -72,3 +73,20 @@ returns-in-Right-clause-with_spare_pair g c h b =
     let k : length (own_pairs (child_at n place)) - ((min_len + 1) - c.len-held.result) ≡ both_of n place - (min_len + 1) = omega arith in
     shared_with_spare c.args.side h n _ place p (omega arith) (omega arith) _ (k ∙ ap (λ s. left_share s (both_of n place)) (sym c.in-Right.is))
     c.bulk_steal_left.ensures.shared
+
+pub returns-then-len-lt-CAPACITY-clause-blocks : goal.returns-then-len-lt-CAPACITY-clause-blocks
+returns-then-len-lt-CAPACITY-clause-blocks g c =
+    let p = pair_at g (goal.at.returns-then-len-lt-CAPACITY-clause-blocks g c).After-saturating_sub-place _ c.requires.bordered.1 in
+    merged_blocks _ _ _ p.inner c.merge.ensures.inner p.in_bounds c.merge.ensures.merged
+
+pub returns-in-Left-clause-blocks : goal.returns-in-Left-clause-blocks
+returns-in-Left-clause-blocks g c =
+    let at = (goal.at.returns-in-Left-clause-blocks g c).After-saturating_sub-place in
+    let p = pair_at g at _ c.requires.bordered.1 in
+    shared_blocks _ _ _ _ p.inner c.bulk_steal_right.ensures.inner p.in_bounds (alike g at) c.bulk_steal_right.ensures.shared
+
+pub returns-in-Right-clause-blocks : goal.returns-in-Right-clause-blocks
+returns-in-Right-clause-blocks g c =
+    let at = (goal.at.returns-in-Right-clause-blocks g c).After-saturating_sub-place in
+    let p = pair_at g at _ c.requires.bordered.1 in
+    shared_blocks _ _ _ _ p.inner c.bulk_steal_left.ensures.inner p.in_bounds (alike g at) c.bulk_steal_left.ensures.shared

@@ -1,4 +1,4 @@
-use Rattle.std.proofs.Common.{sym, subst}
+use Rattle.std.proofs.Common.{sym, subst, arith}
 use Rattle.fc_base.specs.Ascending.{IsAscending}
 use Rattle.fc_base.proofs.JoinedLaws.{ascending_joined}
 use Rattle.fc_map.specs.Entries.{entries}
@@ -21,3 +21,10 @@ returns-clause-ascending g c =
 pub returns-clause-requests_merged : goal.returns-clause-requests_merged
 returns-clause-requests_merged g c = rw (← c.self.view_is) (rw (← c.other.view_is)
     (rw (c.self.invariant.2, c.other.invariant.2) at c.in_ok-self-inside.ensures.requests_merged))
+
+pub returns-clause-at_most_merged : goal.returns-clause-at_most_merged
+returns-clause-at_most_merged g c = rw (← c.self.view_is) (rw (← c.other.view_is)
+    (rw (c.self.invariant.2, c.other.invariant.2) at c.try_append.ensures.at_most_merged))
+
+pub returns-clause-blocks : goal.returns-clause-blocks
+returns-clause-blocks g c = rw (← c.self.view_is) (rw (← c.other.view_is) (omega (arith, c.in_ok-self-inside.ensures.blocks)))

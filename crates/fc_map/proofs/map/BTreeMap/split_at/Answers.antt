@@ -28,3 +28,6 @@ returns-clause-few g c =
 pub returns-in_err-rest-clause-few : goal.returns-in_err-rest-clause-few
 returns-in_err-rest-clause-few g c =
     rw (← c.self.view_is) (few_cut c.self.inside.root c.self.invariant.1 c.args.asked.now c.try_split_counted.new.asked c.try_split_counted.ensures.at_most)
+
+pub returns-clause-blocks : goal.returns-clause-blocks
+returns-clause-blocks g c = rw (← c.self.view_is) (omega (arith, c.in_ok-rest.ensures.blocks, c.in_ok-rest.ensures.requests))

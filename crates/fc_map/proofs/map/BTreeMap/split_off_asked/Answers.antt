@@ -1,7 +1,7 @@
-use Rattle.std.proofs.Common.{arith, ◌<◌, length, ap}
-use Rattle.fc_map.specs.Entries.{entries}
+use Rattle.std.proofs.Common.{arith, rules, ◌<◌, length, ap}
+use Rattle.fc_map.specs.Entries.{entries, IsSoundMap}
 use Rattle.fc_map.proofs.SplitFacts.{split_halves}
-use Rattle.fc_map.proofs.RequestFacts.{none_cut}
+use Rattle.fc_map.proofs.RequestFacts.{none_cut, no_blocks}
 use Rattle.fc_map.proofs.map.BTreeMap.split_off_asked.Goals as goal
 
 pub returns-clause-below : goal.returns-clause-below
@@ -26,3 +26,9 @@ pub returns-then-self-eq0-clause-requests : goal.returns-then-self-eq0-clause-re
 returns-then-self-eq0-clause-requests g c =
     let none = none_cut c.self.inside.root c.self.invariant.1 (omega arith) in
     rw (← c.self.view_is) (omega (arith, none))
+
+pub returns-then-self-eq0-clause-blocks : goal.returns-then-self-eq0-clause-blocks
+returns-then-self-eq0-clause-blocks g c =
+    let sound : IsSoundMap c.new.result = search rules in
+    let none = no_blocks c.new.result sound (ap length c.new.ensures) in
+    omega (arith, none)

@@ -1,10 +1,11 @@
-use Rattle.std.proofs.Common.{ap}
+use Rattle.std.proofs.Common.{ap, arith}
 use denote.Param.{param}
 use Rattle.fc_tree_build.specs.Spine.{level_above}
 use Rattle.fc_tree_drain.proofs.Sizes.{nodes_fit}
 use Rattle.fc_tree_build.proofs.StackSizes.{items_fit}
 use Rattle.fc_tree_build.proofs.Builders.{last_is, all_built}
 use Rattle.fc_tree_build.proofs.GrownFacts.{closed_all, closed_sound}
+use Rattle.fc_tree_node.specs.Blocks.{blocks_in}
 use Rattle.fc_tree_build.proofs.builder.Builder.finish.Goals as goal
 
 pub array_drop-spine-inside-requires : goal.array_drop-spine-inside-requires
@@ -40,3 +41,9 @@ returns-clause-sound g c =
     let l = last_is _ _ _ _ c.in-Some.is i.0 in
     closed_sound c.self.inside.spine c.rebalance_right.result i.5.0
     (c.rebalance_right.ensures.levels (level_above 0 c.self.inside.spine) (c.close.ensures.levels 0 i.1 (l.0, l.1)))
+
+pub returns-clause-blocks : goal.returns-clause-blocks
+returns-clause-blocks g c =
+    let view = ap (λ b. b.blocks) c.self.view_is in
+    let was = ap (λ o. blocks_in o) c.in-Some.is in
+    omega (arith, view, was, c.close.ensures.blocks, c.rebalance_right.ensures.blocks)

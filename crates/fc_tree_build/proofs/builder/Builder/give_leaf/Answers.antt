@@ -16,7 +16,7 @@ invariant_of-self g c =
     let p = c.put_spare.ensures in
     let one = length_pushed _ _ _ p.items in
     let empty = subst (AllByRecursion (λ n. IsEmptyLeaf n)) (sym p.items) (all_both (λ n. IsEmptyLeaf n) s.leaves.items _ i.3 (c.requires, tt)) in
-    (i.0, i.1, two_more s.last s.limit _ _ _ _ one p.capacity i.2, empty, i.4, i.5)
+    (i.0, i.1, two_more s.last s.limit _ _ (vec_capacity s.leaves) _ one (omega (arith, p.capacity)) i.2, empty, i.4, i.5)
 
 pub returns-then-len-capacity-clause-kept : goal.returns-then-len-capacity-clause-kept
 returns-then-len-capacity-clause-kept g c =
@@ -39,3 +39,12 @@ returns-else-len-capacity-clause-room g c =
     subst (λ l. min l (min (now.room + most_children) (2 * most_children)) ≤ now.room) (ap (λ b. b.limit) c.self.view_is)
     (full_room s.last s.limit now.room (length s.leaves.items) (vec_capacity s.leaves) s.spine c.self.invariant.0 (ap (λ b. b.room) c.self.view_is)
     (omega (arith, s.leaves.ok)) c.self.invariant.2)
+
+pub returns-then-len-capacity-clause-blocks : goal.returns-then-len-capacity-clause-blocks
+returns-then-len-capacity-clause-blocks g c =
+    let view = ap (λ b. b.blocks) c.self.view_is in
+    let one = length_pushed _ _ _ c.put_spare.ensures.items in
+    omega (arith, view, one)
+
+pub returns-else-len-capacity-clause-blocks : goal.returns-else-len-capacity-clause-blocks
+returns-else-len-capacity-clause-blocks g c = omega arith

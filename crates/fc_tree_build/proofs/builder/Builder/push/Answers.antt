@@ -10,6 +10,9 @@ use Rattle.fc_tree_build.proofs.SpineFacts.{length_pushed, enough_needed, enough
 use Rattle.fc_tree_build.proofs.Builders.{leaf_taken, last_is, leaf_sound, push_pairs, all_built, put_last, one_less, some_room, less_room}
 use Rattle.fc_tree_build.proofs.Builders.{next_room, next_leaves, put_room_after, put_leaves, still_enough}
 use Rattle.fc_tree_build.proofs.GrownFacts.{put_pairs}
+use Rattle.fc_tree_node.specs.Blocks.{blocks_in}
+use Rattle.fc_tree_node.proofs.BlockFacts.{blocks_leaf}
+use Rattle.fc_tree_build.proofs.BuiltBlocks.{pair_blocks}
 use Rattle.fc_tree_build.proofs.builder.Builder.push.Given as given
 use Rattle.fc_tree_build.proofs.builder.Builder.push.Goals as goal
 use Rattle.fc_tree_build.proofs.builder.Builder.push.Goals.{In-Some}
@@ -119,3 +122,19 @@ returns-clause-room g c =
     let room = next_room leaf c.take_spare.result _ (length spares) l.0.0 (omega arith) empty (length_pushed _ _ _ c.take_spare.ensures.items) in
     rw c.replace-full.ensures.after
     (less_room s.limit _ (s.limit - 1) (room_after (Some c.take_spare.result) (length spares)) (one_less s.limit l.1.0) room ∙ before g at)
+
+pub returns-then-len-lt-CAPACITY-clause-blocks : goal.returns-then-len-lt-CAPACITY-clause-blocks
+returns-then-len-lt-CAPACITY-clause-blocks g c =
+    let view = ap (λ b. b.blocks) c.self.view_is in
+    let was = ap (λ o. blocks_in o) c.in-Some.is in
+    let same = pair_blocks c.in-Some.last c.put_pair.new.node c.put_pair.ensures.children c.put_pair.ensures.leaf in
+    omega (arith, view, was, same)
+
+pub returns-clause-blocks : goal.returns-clause-blocks
+returns-clause-blocks g c =
+    let view = ap (λ b. b.blocks) c.self.view_is in
+    let was = ap (λ o. blocks_in o) c.in-Some.is in
+    let one = length_pushed _ _ _ c.take_spare.ensures.items in
+    let empty = blocks_leaf c.take_spare.result (leaf_taken _ _ _ c.take_spare.ensures.items c.self.invariant.3).0.1 in
+    let put = rw c.replace-full.ensures.value at c.attach.ensures.blocks in
+    rw c.replace-full.ensures.after (omega (arith, view, was, one, empty, put))

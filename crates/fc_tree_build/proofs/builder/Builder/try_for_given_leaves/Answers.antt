@@ -16,3 +16,6 @@ pub returns-clause-ok : goal.returns-clause-ok
 returns-clause-ok g c =
     let room = made_room c.args.n c.leaf_count.result c.min.result c.leaf_count.ensures c.min.ensures in
     IfOk-weaker c.try_with_leaves.result _ _ (λ b ok. (ok.0, ok.1, ok.2 ∙ room)) c.try_with_leaves.ensures.ok
+
+pub returns-clause-blocks : goal.returns-clause-blocks
+returns-clause-blocks g c = c.try_with_leaves.ensures.blocks

@@ -3,6 +3,8 @@ use denote.Param.{param}
 use Rattle.fc_tree_drain.proofs.Sizes.{nodes_fit}
 use Rattle.fc_tree_build.specs.Spine.{IsSpine}
 use Rattle.fc_tree_build.proofs.Builders.{first_last, first_none, first_room, first_leaves, first_enough, first_pairs, first_two, no_pair}
+use Rattle.fc_tree_node.proofs.BlockFacts.{all_blocks}
+use Rattle.fc_tree_build.proofs.BuiltBlocks.{new_asked, first_blocks}
 use Rattle.fc_tree_build.proofs.builder.Builder.try_with_leaves.Given as given
 use Rattle.fc_tree_build.proofs.builder.Builder.try_with_leaves.Goals as goal
 use Rattle.fc_tree_build.proofs.builder.Builder.try_with_leaves.Goals.{After-pop-last}
@@ -42,3 +44,11 @@ returns-clause-ok g c =
 
 pub new-requires : goal.new-requires
 new-requires g c = nodes_fit (param 0 g.row.K) (param 1 g.row.V) g.row.A g.A.Allocator g.met.A.Handle.small
+
+pub returns-clause-blocks : goal.returns-clause-blocks
+returns-clause-blocks g c =
+    let ok = c.in_ok-leaves.ensures.ok in
+    let none = ap (λ s. all_blocks s) c.new.ensures in
+    let leaves = first_blocks _ c.pop-last.new.self.items c.pop-last.result c.pop-last.ensures.items ok.1 in
+    new_asked _ _ _ _ _ c.args.count c.inner_count.result _ _ _ none leaves ok.0 c.in_ok-inner.ensures.ok.0 c.in_ok-leaves.ensures.requests
+    c.in_ok-inner.ensures.requests

@@ -1,4 +1,5 @@
-use Rattle.std.proofs.Common.{refl}
+use Rattle.std.proofs.Common.{length, refl, arith}
+use Rattle.fc_tree_build.proofs.LoadFacts.{load_grows}
 use Rattle.fc_tree_build.proofs.growing.GrowingBuilder.push.Goals as goal
 
 pub returns-in-None-clause-pairs : goal.returns-in-None-clause-pairs
@@ -24,3 +25,12 @@ returns-in-Some-clause-full g c = let b = c.in-Some.ensures.back in rw b.1 at c.
 
 pub returns-in-Some-clause-no_room : goal.returns-in-Some-clause-no_room
 returns-in-Some-clause-no_room g c = let b = c.in-Some.ensures.back in rw b.1 at c.push_growing.ensures.no_room
+
+pub returns-in-None-clause-at_most : goal.returns-in-None-clause-at_most
+returns-in-None-clause-at_most g c = let more = load_grows (length c.args.self.now.pairs) in omega (arith, more)
+
+pub returns-in-Some-clause-at_most : goal.returns-in-Some-clause-at_most
+returns-in-Some-clause-at_most g c = let b = c.in-Some.ensures.back in rw b.1 at c.push_growing.ensures.at_most
+
+pub returns-in-Some-clause-none : goal.returns-in-Some-clause-none
+returns-in-Some-clause-none g c some = absurd (cc (c.in-Some.ensures.taken some))

@@ -1,10 +1,10 @@
-use Rattle.std.proofs.Common.{rules, inl, ◌++◌, ap, sym, ◌∙◌}
+use Rattle.std.proofs.Common.{rules, inl, ◌++◌, ap, sym, ◌∙◌, arith}
 use Rattle.std.proofs.lemmas.List.{nil_from_length}
 use Rattle.fc_tree_node.specs.Node.{items_or_none}
 use Rattle.fc_tree_node.proofs.Made.{own_made, field_made}
 use Rattle.fc_tree_drain.specs.Opened.{after_front}
 use Rattle.fc_tree_drain.proofs.Ends.{nodes_there}
-use Rattle.fc_tree_drain.proofs.LeafFronts.{some_leaf, open_leaf}
+use Rattle.fc_tree_drain.proofs.LeafFronts.{some_leaf, open_leaf, few_blocks, block_below}
 use Rattle.fc_tree_drain.proofs.leaf_front.LeafFront.next_leaf.Goals as goal
 
 pub pop_first_pair-pair-requires : goal.pop_first_pair-pair-requires
@@ -31,3 +31,13 @@ returns-clause-empty g c = (own_made _ ∙ c.into_slots.ensures, field_made _)
 
 pub returns-clause-leaf : goal.returns-clause-leaf
 returns-clause-leaf g c = open_leaf c.pop_first_pair-pair.new.run c.pop_first_pair-pair.new.stack c.pop_first_pair-pair.ensures.fits
+
+pub returns-clause-blocks : goal.returns-clause-blocks
+returns-clause-blocks g c =
+    let s = c.self.inside in
+    let none = ap (λ f. f.in_leaf) c.self.view_is ∙ c.requires.used_up in
+    let some = nodes_there (items_or_none s.run) s.nodes c.args.self.now.pairs (ap (λ f. f.pairs) c.self.view_is) c.requires.some none in
+    let view = ap (λ f. f.blocks) c.self.view_is in
+    let was = block_below s.run s.nodes c.self.invariant.2 some in
+    let now = few_blocks c.pop_first_pair-pair.new.run in
+    omega (arith, view, was, now, c.pop_first_pair-pair.ensures.blocks c.self.invariant.1)

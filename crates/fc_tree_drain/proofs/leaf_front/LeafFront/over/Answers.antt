@@ -3,7 +3,10 @@ use Rattle.fc_base.specs.Sizes.{capacity, most_levels}
 use Rattle.fc_tree_node.specs.Node.{pairs_of, items_or_none}
 use Rattle.fc_tree_node.specs.Tree.{entries}
 use Rattle.fc_tree_drain.specs.Opened.{IsFalling, AreEven, after_front}
-use Rattle.fc_tree_drain.proofs.LeafFronts.{some_leaf, open_leaf}
+use Rattle.fc_tree_node.specs.Blocks.{blocks_in}
+use Rattle.fc_tree_node.proofs.BlockFacts.{all_blocks}
+use Rattle.fc_tree_drain.specs.LeafFront.{leaf_blocks}
+use Rattle.fc_tree_drain.proofs.LeafFronts.{some_leaf, open_leaf, few_blocks}
 use Rattle.fc_tree_drain.proofs.leaf_front.LeafFront.over.Goals as goal
 use Rattle.fc_tree_drain.proofs.leaf_front.LeafFront.over.Goals.{in-Some, in_default}
 
@@ -39,3 +42,21 @@ invariant_of-result g c =
 
 pub returns-clause-leaf : goal.returns-clause-leaf
 returns-clause-leaf g c = let i = invariant_of-result g c in open_leaf c.match-root.run c.match-root.nodes i.3
+
+pub returns-clause-blocks : goal.returns-clause-blocks
+returns-clause-blocks g c =
+    let s = c.match-root in
+    let none = ap (λ n. all_blocks n) c.new-nodes.ensures in
+    elim s.branch [
+      | in-Some w ↦ (
+          let nodes = ap (λ n. all_blocks n) w.nodes-is in
+          let root = ap (λ o. blocks_in o) w.in-Some.is in
+          let few = few_blocks s.run in
+          omega (arith, none, nodes, root, few, w.open_first.ensures.blocks)
+          )
+      | in_default w ↦ (
+          let nodes = ap (λ n. all_blocks n) w.nodes-is in
+          let run = ap (λ r. leaf_blocks r) w.run-is in
+          omega (arith, none, nodes, run)
+          )
+    ]

@@ -1,4 +1,4 @@
-use Rattle.std.proofs.Common.{◌∙◌}
+use Rattle.std.proofs.Common.{ap, ◌∙◌}
 use denote.Param.{param}
 use Rattle.fc_tree_build.proofs.StackSizes.{growing_builder_fits, items_fit}
 use Rattle.fc_map.specs.Entries.{entries}
@@ -18,7 +18,8 @@ drop-map-inside-requires-then-is_empty g c = list_fits (param 0 g.row.K) (param 
 pub returns-then-is_empty-clause-pairs : goal.returns-then-is_empty-clause-pairs
 returns-then-is_empty-clause-pairs g c =
     c.from_grown.ensures.pairs
-    ∙ all_in_tree c.self.inside.tree.pairs (entries c.self.inside.map) c.args.self c.self.view_is (c.is_empty.ensures.0 c.if-is_empty.true)
+    ∙ all_in_tree c.self.inside.tree.pairs (entries c.self.inside.map) c.args.self.pairs (ap (λ e. e.pairs) c.self.view_is)
+    (c.is_empty.ensures.0 c.if-is_empty.true)
 
 pub array_drop-tree-inside-requires : goal.array_drop-tree-inside-requires
 array_drop-tree-inside-requires g c = items_fit (param 0 g.row.K) (param 1 g.row.V) g.row.A g.A.Allocator g.met.A.Handle.small
@@ -28,5 +29,5 @@ drop-tree-inside-requires g c = list_fits (param 0 g.row.K) (param 1 g.row.V) g.
 
 pub returns-clause-pairs : goal.returns-clause-pairs
 returns-clause-pairs g c =
-    (all_in_map g.K.Ord.cmp c.self.inside.tree.pairs (entries c.self.inside.map) c.args.self c.is_empty.result c.self.invariant c.self.view_is
-    c.if-is_empty.false c.is_empty.ensures).1
+    (all_in_map g.K.Ord.cmp c.self.inside.tree.pairs (entries c.self.inside.map) c.args.self.pairs c.is_empty.result c.self.invariant
+    (ap (λ e. e.pairs) c.self.view_is) c.if-is_empty.false c.is_empty.ensures).1

@@ -16,8 +16,8 @@ pub returns-clause-merged : goal.returns-clause-merged
 returns-clause-merged g c =
     let tree = c.self.inside.tree.pairs in
     let map = entries c.self.inside.map in
-    merged_beside g.K.Ord.cmp c.merge.result tree map (entries c.merge.new.self) c.args.self.now c.args.items.items (none g c)
-    (sym (ap (λ z. z ++ map) (none g c)) ∙ c.self.view_is) c.merge.ensures.merged
+    merged_beside g.K.Ord.cmp c.merge.result tree map (entries c.merge.new.self) c.args.self.now.pairs c.args.items.items (none g c)
+    (sym (ap (λ z. z ++ map) (none g c)) ∙ ap (λ e. e.pairs) c.self.view_is) c.merge.ensures.merged
 
 pub returns-clause-unchanged : goal.returns-clause-unchanged
 returns-clause-unchanged g c =

@@ -20,9 +20,12 @@ returns-clause-put g c none =
     let told = c.put_if_after.ensures in
     (put_if_last g.K.Ord.cmp c.put_if_after.result c.self.inside.tree c.put_if_after.new.self (entries c.self.inside.map) c.args.pair g.met.K.Ord.total
     c.self.invariant told.after told.put told.back).1 none
-    ∙ ap (λ s. put g.K.Ord.cmp s c.args.pair.0 c.args.pair.1) c.self.view_is
+    ∙ ap (λ s. put g.K.Ord.cmp s.pairs c.args.pair.0 c.args.pair.1) c.self.view_is
 
 pub returns-clause-back : goal.returns-clause-back
 returns-clause-back g c =
     back_beside c.put_if_after.result c.self.inside.tree c.put_if_after.new.self (entries c.self.inside.map) c.args.self.now c.args.pair c.self.view_is
     c.put_if_after.ensures.back
+
+pub returns-clause-closed : goal.returns-clause-closed
+returns-clause-closed g c = ap (λ e. e.closed) c.self.view_is
