@@ -42,6 +42,15 @@ returns-clause-requests_merged g c = rw (← c.self.view_is) (rw (← c.other.vi
     (λ made mixed. made (λ a. mixed (ascending_both g.T.Ord.cmp (entries c.self.inside.map) (entries c.other.inside.map) a)))
     c.append_asked.ensures.requests_merged)))
 
+pub returns-clause-at_most_after : goal.returns-clause-at_most_after
+returns-clause-at_most_after g c = rw (← c.self.view_is) (rw (← c.other.view_is)
+    (λ a. c.append_asked.ensures.at_most_after (both_ascend g.T.Ord.cmp (entries c.self.inside.map) (entries c.other.inside.map) a)))
+
+pub returns-clause-at_most_merged : goal.returns-clause-at_most_merged
+returns-clause-at_most_merged g c = rw (← c.self.view_is) (rw (← c.other.view_is)
+    (rw (keys_length (entries c.self.inside.map), keys_length (entries c.other.inside.map))
+    (λ mixed. c.append_asked.ensures.at_most_merged (λ a. mixed (ascending_both g.T.Ord.cmp (entries c.self.inside.map) (entries c.other.inside.map) a)))))
+
 pub returns-clause-at_most : goal.returns-clause-at_most
 returns-clause-at_most g c = rw (← c.self.view_is) (rw (← c.other.view_is)
     (rw (keys_length (entries c.self.inside.map), keys_length (entries c.other.inside.map)) c.append_asked.ensures.at_most))
