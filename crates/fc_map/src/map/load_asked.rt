@@ -14,8 +14,8 @@ use std::alloc::Global;
 
 impl<K: Ord + Drop, V: Drop> BTreeMap<K, V> {
     /// `try_from_iterator`, with its requests for memory added to `asked`: where the keys ascend, at most one for each leaf and three for each inner node of
-    /// a tree of so many pairs whose leaves are full, and where it is refused, no more than those for the pairs that were taken. The requests of a
-    /// merge, by which many items out of order are put in, are not added.
+    /// a tree of so many pairs whose leaves are full, and where it is refused, no more than those for the pairs that were taken. Of items out of
+    /// order, what gathers, sorts and merges them is not added.
     ///
     /// # Errors
     /// As `try_from_iterator`.
