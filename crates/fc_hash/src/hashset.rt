@@ -92,8 +92,8 @@ impl<T: Eq + Hash, A: Handle> TryHashSet<T, A> {
     ///
     /// # Errors
     /// Only where the item is new and there was no room: `CapacityOverflow` exactly where the length plus one passes `usize::MAX`, else
-    /// `AllocError`. The set has then the items that it had, and `item` is dropped.
-    pub fn insert(&mut self, item: T) -> Result<bool, TryReserveError>
+    /// `AllocError`. The set has then the items that it had, and `item` comes back.
+    pub fn insert(&mut self, item: T) -> Result<bool, (T, TryReserveError)>
     where
         T: Drop,
         ensures new { IfOk result (λ new. new ≡ not (is_member T.eq self.old.items item)) }
@@ -102,12 +102,15 @@ impl<T: Eq + Hash, A: Handle> TryHashSet<T, A> {
         ensures length { length self.new.items < 2 ^ 64 }
         ensures fits { 0 < self.old.spare → IsOk result }
         ensures kept { self.old.spare ≤ self.new.spare + 1 }
-        ensures error { IfErr result (λ e. (self.old.spare ≡ 0) × (is_member T.eq self.old.items item ≡ false) × (e ≡ append_error (length self.old.items) 1) × (self.new.items ≡ self.old.items)) }
+        ensures back { IfErr result (λ e. e.0 ≡ item) }
+        ensures error { IfErr result (λ e. (self.old.spare ≡ 0) × (is_member T.eq self.old.items item ≡ false) × (e.1 ≡ append_error (length self.old.items) 1) × (self.new.items ≡ self.old.items)) }
     {
         // std's set never has so many items that one more passes the greatest length.
         let _len = self.inner.len();
-        let new = self.inner.insert(item)?;
-        Ok(new)
+        match self.inner.insert(item) {
+            Ok(new) => Ok(new),
+            Err(refused) => Err((refused.value, TryReserveError::AllocError)),
+        }
     }
 
     /// Puts the item in the place of the equal one, which it answers, or beside the others where there is none. Where there is room, or an
@@ -115,7 +118,7 @@ impl<T: Eq + Hash, A: Handle> TryHashSet<T, A> {
     ///
     /// # Errors
     /// As `insert`.
-    pub fn replace(&mut self, item: T) -> Result<Option<T>, TryReserveError>
+    pub fn replace(&mut self, item: T) -> Result<Option<T>, (T, TryReserveError)>
     where
         T: Drop,
         ensures old { IfOk result (λ old. old ≡ item_at T.eq item self.old.items) }
@@ -123,11 +126,14 @@ impl<T: Eq + Hash, A: Handle> TryHashSet<T, A> {
         ensures set { IsSet T.eq self.new.items }
         ensures fits { 0 < self.old.spare → IsOk result }
         ensures kept { self.old.spare ≤ self.new.spare + 1 }
-        ensures error { IfErr result (λ e. (self.old.spare ≡ 0) × (is_member T.eq self.old.items item ≡ false) × (e ≡ append_error (length self.old.items) 1) × (self.new.items ≡ self.old.items)) }
+        ensures back { IfErr result (λ e. e.0 ≡ item) }
+        ensures error { IfErr result (λ e. (self.old.spare ≡ 0) × (is_member T.eq self.old.items item ≡ false) × (e.1 ≡ append_error (length self.old.items) 1) × (self.new.items ≡ self.old.items)) }
     {
         let _len = self.inner.len();
-        let old = self.inner.replace(item)?;
-        Ok(old)
+        match self.inner.replace(item) {
+            Ok(old) => Ok(old),
+            Err(refused) => Err((refused.value, TryReserveError::AllocError)),
+        }
     }
 
     /// Makes room for `additional` more items: where that is `Ok`, so many insertions of new items are never refused. A reservation that

@@ -189,8 +189,8 @@ fn a_refused_insertion_keeps_the_items(rt: HostRuntime) {
     for item in 0..40u64 {
         match set.insert(item) {
             Ok(new) => assert!(rt; new),
-            Err(error) => {
-                assert!(rt; matches!(error, TryReserveError::AllocError));
+            Err((back, error)) => {
+                assert!(rt; back == item && matches!(error, TryReserveError::AllocError));
                 assert!(rt; set.len() as u64 == item && !set.contains(&item));
                 return;
             }

@@ -30,7 +30,7 @@ impl<T: Eq + Hash + Drop, A: Handle> TryHashSet<T, A> {
         'items: for item in items {
             match self.insert(item) {
                 Ok(_new) => (),
-                Err(refused) => return Err(refused),
+                Err((_item, error)) => return Err(error),
             }
         }
         Ok(())
