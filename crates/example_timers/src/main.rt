@@ -1,11 +1,11 @@
 //! Timers by their ids: reads lines from standard input, and answers each by lines on standard output.
 #![tactic(auto)]
 
-ghost use Rattle.std.specs.Prelude.{◌≡◌, ◌+◌, OnOk, OnErr};
+ghost use Rattle.std.specs.Prelude.{◌≡◌, OnOk, OnErr};
 ghost use Rattle.std.specs.Ordering.{nat_cmp};
 ghost use Rattle.fc_base.specs.OneKey.{put};
 ghost use Rattle.fc_map.specs.Entries.{entries};
-ghost use Rattle.fc_timers.specs.Timers.{timer_count};
+ghost use Rattle.fc_timers.specs.Timers.{by_time_then_turn};
 ghost use Rattle.fc_timers.specs.declared.timer.Timer.{Timer as Key};
 
 use bounded_lines::{Line, Pieces, number};
@@ -84,8 +84,7 @@ fn pair(text: &str) -> Option<(u64, u64)> {
 impl Timers {
     // Sets a timer whose id no other has. Where memory was refused, all is as it was.
     fn add(&mut self, id: u64, due: u64) -> Result<(), TryReserveError>
-        ensures count { OnOk result (timer_count self.new.queue ≡ timer_count self.old.queue + 1) }
-        ensures put { OnOk result ((timer : Key) × (entries self.new.by_id ≡ put nat_cmp (entries self.old.by_id) id timer)) }
+        ensures put { OnOk result ((timer : Key) × (self.new.queue.timers ≡ put (by_time_then_turn nat_cmp) self.old.queue.timers (due, self.old.queue.next_turn) (timer, id)) × (entries self.new.by_id ≡ put nat_cmp (entries self.old.by_id) id timer)) }
         ensures unchanged { OnErr result (self.new ≡ self.old) }
     {
         let mut nodes = self.by_id.try_reserve_nodes(1)?;
@@ -97,7 +96,7 @@ impl Timers {
     // Gives the timer of an id another time, and answers the one that it had.
     fn reschedule(&mut self, id: u64, due: u64) -> Option<u64> {
         let timer = self.by_id.get(&id)?;
-        self.queue.reschedule(*timer, due)
+        self.queue.reschedule(*timer, due).ok()
     }
 
     // Takes the timer of an id out, and answers when it was due.
@@ -110,7 +109,7 @@ impl Timers {
     // Takes out all that are due, and writes each, and how many they were.
     fn expire<W: Write>(&mut self, now: u64, out: &mut W) -> io::Result<()> {
         for count in 0..u64::MAX {
-            let Some((due, id)) = self.queue.pop_due(&now) else {
+            let Some((_timer, due, id)) = self.queue.pop_due(&now) else {
                 return writeln!(out, "{count} due");
             };
             self.by_id.remove(&id);

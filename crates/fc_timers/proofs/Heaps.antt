@@ -8,7 +8,7 @@ use Rattle.std.specs.declared.cmp.Ordering.{Ordering}
 use Rattle.fc_timers.specs.declared.timer.Armed.{Armed}
 use Rattle.fc_timers.specs.declared.slot.Due.{Due}
 use Rattle.std.specs.Option.{IfNone, IfSome}
-use Rattle.fc_timers.specs.Timers.{due_first}
+use Rattle.fc_timers.specs.Slotted.{due_first}
 use Rattle.fc_timers.specs.Heap.{earlier_found, IsAbove, IsAtMost, IsFirstBelow, IsIndexed, IsOrdered, IsOrderedBut, IsOver, IsUnder, own_due, put_at}
 use Rattle.fc_timers.proofs.Turns.{due_first_chained, due_first_itself, due_first_turned}
 

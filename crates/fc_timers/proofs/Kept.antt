@@ -3,14 +3,13 @@ use Rattle.std.proofs.Common.{◌≡◌, ℕ, zero, suc, ◌+◌, ◌-◌, ◌^�
 use Rattle.std.proofs.Common.{length, get_or, set, count_by, Option, Some, None, is_some, IsSome, false, refl, sym, ap, subst, ◌∙◌, arith}
 use Rattle.std.proofs.lemmas.List.{get_or_append_left, length-map, length-set, length_push, map_push}
 use Rattle.std.proofs.lemmas.List.Sums.{sum_by-set, sum_by_push}
-use Rattle.std.specs.Option.{IfSome, option_map}
 use Rattle.std.specs.Ordering.{is_gt}
 use Rattle.std.specs.declared.cmp.Ordering.{Ordering}
 use Rattle.fc_timers.specs.declared.timer.Timer.{Timer}
 use Rattle.fc_timers.specs.declared.timer.Armed.{Armed}
 use Rattle.fc_timers.specs.declared.slot.Due.{Due}
 use Rattle.fc_timers.specs.declared.slot.Slot.{Slot}
-use Rattle.fc_timers.specs.Timers.{Queue, armed, renewed, timer_count, IsChanged, IsPopped}
+use Rattle.fc_timers.specs.Slotted.{Slotted, armed, renewed, timer_count, IsChanged, IsPopped}
 use Rattle.fc_timers.specs.Heap.{AreVacantKept, IsFirst, IsGivenOut, IsHeap, IsSound, IsVacantList, due_at, dues, held_at, helds, link_at, links, own_due}
 use Rattle.fc_timers.proofs.Heaps.{own_held, within_some}
 use Rattle.fc_timers.proofs.Listed.{listed_before, listed_as, listed_new, listed_rest, listed_still}
@@ -177,7 +176,7 @@ module _ {T V : Type 0} where
   within_slot (x ∷ h) (suc k) a e = omega (arith, within_slot h k a e)
 
   -- A timer whose slot is emptied is in the queue no more.
-  pub taken_out : (old new : Queue T V) (timer : Timer) (a : Armed T V) → armed old timer ≡ Some a → new.slots ≡ set old.slots timer.slot None
+  pub taken_out : (old new : Slotted T V) (timer : Timer) (a : Armed T V) → armed old timer ≡ Some a → new.slots ≡ set old.slots timer.slot None
       → IsChanged old new timer None × (timer_count new + 1 ≡ timer_count old)
   taken_out old new timer a stands written =
       let there = in_slot old timer a stands in
@@ -187,7 +186,7 @@ module _ {T V : Type 0} where
       )
 
   -- A timer of which the time and the turn are written anew stays what it is.
-  pub moved : (old new : Queue T V) (timer : Timer) (a : Armed T V) (at : T) (turn : ℕ) → armed old timer ≡ Some a
+  pub moved : (old new : Slotted T V) (timer : Timer) (a : Armed T V) (at : T) (turn : ℕ) → armed old timer ≡ Some a
       → new.slots ≡ set old.slots timer.slot (renewed at turn (get_or old.slots timer.slot None))
       → IsChanged old new timer (renewed at turn (armed old timer)) × (timer_count new ≡ timer_count old)
   moved old new timer a at turn stands written =
@@ -210,17 +209,12 @@ module _ {T V : Type 0} where
 
 module _ {T V : Type 0} {cmp : T → T → Ordering} where
   -- Taking the first timer out, where it is due, is what a call says that answers it.
-  pub popped : (old new : Queue T V) (f : Due T) (now : T) → IsFirst cmp old f → is_gt (cmp f.at now) ≡ false → new.slots ≡ set old.slots f.slot None
-      → (r : Option (T × V)) → r ≡ option_map (λ a. (a.at, a.value)) (get_or old.slots f.slot None) → IfSome r (IsPopped cmp old new now)
-  popped old new f now first due written None answer = tt
-  popped old new f now first due written (Some pair) answer =
-      let taken = first.armed in
-      let pairs = answer ∙ ap (option_map (λ (a : Armed T V). (a.at, a.value))) first.held in
-      record {
-        timer = record { slot = f.slot; number = taken.number };
-        taken = taken;
-        answer = cc;
+  pub popped : (old new : Slotted T V) (f : Due T) (now : T) (a : Armed T V) → IsFirst cmp old f → is_gt (cmp f.at now) ≡ false
+      → new.slots ≡ set old.slots f.slot None → Some a ≡ get_or old.slots f.slot None → IsPopped cmp old new now (record { slot = f.slot; number = a.number }) a
+  popped old new f now a first due written answer =
+      let same : a ≡ first.armed = let both : Some a ≡ Some first.armed = answer ∙ first.held in cc in
+      subst (λ b. IsPopped cmp old new now (record { slot = f.slot; number = b.number }) b) (sym same) record {
         earliest = first.earliest;
-        due = not_later (cmp taken.at now) (ap (λ t. is_gt (cmp t now)) first.at ∙ due);
-        changed = (taken_out old new (record { slot = f.slot; number = taken.number }) taken first.earliest.stands written).0;
+        due = not_later (cmp first.armed.at now) (ap (λ t. is_gt (cmp t now)) first.at ∙ due);
+        changed = (taken_out old new (record { slot = f.slot; number = first.armed.number }) first.armed first.earliest.stands written).0;
       }

@@ -1,5 +1,7 @@
+mod Calls
 mod Changes
 mod Drained
+mod Entries
 mod Heaps
 mod Kept
 pub mod Laws
@@ -8,5 +10,6 @@ mod Moves
 mod OfQueue
 mod SameLists
 mod Standing
+mod Thin
 mod Turns
 mod Vacancies

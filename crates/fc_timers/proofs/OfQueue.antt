@@ -14,8 +14,9 @@ use Rattle.fc_base.specs.Parts.{at}
 use Rattle.fc_base.proofs.Laws.{at_equal, ascending_put, length_put_new}
 use Rattle.fc_timers.specs.declared.timer.Timer.{Timer}
 use Rattle.fc_timers.specs.declared.timer.Armed.{Armed}
-use Rattle.fc_timers.specs.Timers.{Queue, armed, IsChanged}
-use Rattle.fc_timers.specs.InOrder.{by_time_then_turn as order, entry, in_order, listed, IsListOf}
+use Rattle.fc_timers.specs.Slotted.{Slotted, armed, IsChanged}
+use Rattle.fc_timers.specs.Timers.{by_time_then_turn as order}
+use Rattle.fc_timers.specs.InOrder.{entry, in_order, listed, IsListOf}
 use Rattle.fc_timers.proofs.SameLists.{at_put_new, found_equal, same_list}
 use Rattle.fc_timers.proofs.Standing.{at_slot, in_slot}
 
@@ -49,14 +50,14 @@ module _ {T : Type 0} (cmp : T → T → Ordering) where
 
 module _ {T V : Type 0} where
   -- No two timers of the queue have one turn.
-  abbrev pub AreApart : Queue T V → Type 0
+  abbrev pub AreApart : Slotted T V → Type 0
   AreApart q = (one other : Timer) (a b : Armed T V) → armed q one ≡ Some a → armed q other ≡ Some b → a.turn ≡ b.turn → one ≡ other
 
   -- Nor do two of so many slots.
   abbrev pub AreSlotsApart : List (Option (Armed T V)) → Type 0
   AreSlotsApart h = (i j : ℕ) (a b : Armed T V) → get_or h i None ≡ Some a → get_or h j None ≡ Some b → a.turn ≡ b.turn → i ≡ j
 
-  pub slots_apart : (q : Queue T V) → AreApart q → AreSlotsApart q.slots
+  pub slots_apart : (q : Slotted T V) → AreApart q → AreSlotsApart q.slots
   slots_apart q apart i j a b e f same = ap (λ t. t.slot) (apart _ _ a b (at_slot q i a e) (at_slot q j b f) same)
 
   rest_apart : (x : Option (Armed T V)) (h : List (Option (Armed T V))) → AreSlotsApart (x ∷ h) → AreSlotsApart h
@@ -153,7 +154,7 @@ module _ {T V : Type 0} {cmp : T → T → Ordering} (total : IsTotalOrder cmp) 
       let counted = sum_by-cons (λ o. cond (is_some o) 1 0) (Some a) h in
       omega (arith, more, rest, counted)
 
-  pub is_list : (q : Queue T V) → AreApart q → IsListOf cmp q (in_order cmp q)
+  pub is_list : (q : Slotted T V) → AreApart q → IsListOf cmp q (in_order cmp q)
   is_list q apart = record {
     ascending = listed_ascends 0 q.slots;
     each = λ k e found.
@@ -169,7 +170,7 @@ module _ {T V : Type 0} {cmp : T → T → Ordering} (total : IsTotalOrder cmp) 
   }
 
   -- A queue is one list alone.
-  pub one_list : (q : Queue T V) (s t : List ((T × ℕ) × (Timer × V))) → IsListOf cmp q s → IsListOf cmp q t → s ≡ t
+  pub one_list : (q : Slotted T V) (s t : List ((T × ℕ) × (Timer × V))) → IsListOf cmp q s → IsListOf cmp q t → s ≡ t
   one_list q s t one other = same_list (order cmp) (order_total total) s t one.ascending other.ascending at_each
     where
       found : (s t : List ((T × ℕ) × (Timer × V))) → IsListOf cmp q s → IsListOf cmp q t → (k : T × ℕ) (e : (T × ℕ) × (Timer × V)) → at (order cmp) s k ≡ Some e
@@ -188,7 +189,7 @@ module _ {T V : Type 0} {cmp : T → T → Ordering} (total : IsTotalOrder cmp) 
           go None (Some y) e f = found t s other one k y f ∙ sym f
 
   -- A list with the entry of one timer more.
-  module _ (q more : Queue T V) (timer : Timer) (a : Armed T V) (put_in : IsChanged q more timer (Some a)) (none : armed q timer ≡ None)
+  module _ (q more : Slotted T V) (timer : Timer) (a : Armed T V) (put_in : IsChanged q more timer (Some a)) (none : armed q timer ≡ None)
       (fresh : (other : Timer) (b : Armed T V) → armed q other ≡ Some b → a.turn ≢ b.turn) (s t : List ((T × ℕ) × (Timer × V))) (of : IsListOf cmp q s)
       (ascends : IsAscending (order cmp) t)
       (at_each : (k : T × ℕ) → at (order cmp) t k ≡ cond (is_eq (order cmp (a.at, a.turn) k)) (Some (entry timer a)) (at (order cmp) s k)) where

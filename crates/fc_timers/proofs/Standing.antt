@@ -15,7 +15,7 @@ use Rattle.std.specs.declared.cmp.Ordering.TheVariants.{Less, Equal, Greater}
 use Rattle.fc_timers.specs.declared.timer.Timer.{Timer}
 use Rattle.fc_timers.specs.declared.timer.Armed.{Armed}
 use Rattle.fc_timers.specs.declared.slot.Due.{Due}
-use Rattle.fc_timers.specs.Timers.{Queue, armed, with_number, by_turn, precedes, timer_count, AreGivenOut, HasNone, IsChanged}
+use Rattle.fc_timers.specs.Slotted.{Slotted, armed, with_number, by_turn, precedes, timer_count, AreGivenOut, HasNone, IsChanged}
 use Rattle.fc_timers.specs.Heap.{IsAtMost, IsFirst, IsGivenOut, IsIndexed, IsOrdered, own_due}
 use Rattle.fc_timers.proofs.Heaps.{order_top}
 
@@ -73,15 +73,16 @@ module _ {T V : Type 0} where
       (with_number n) e
 
   -- A timer that is in the queue stands in its slot.
-  pub in_slot : (q : Queue T V) (timer : Timer) (a : Armed T V) → armed q timer ≡ Some a → (get_or q.slots timer.slot None ≡ Some a) × (a.number ≡ timer.number)
+  pub in_slot : (q : Slotted T V) (timer : Timer) (a : Armed T V) → armed q timer ≡ Some a
+      → (get_or q.slots timer.slot None ≡ Some a) × (a.number ≡ timer.number)
   in_slot q timer a e = with_number_is timer.number (get_or q.slots timer.slot None) a e
 
   -- What stands in a slot is a timer of the queue.
-  pub at_slot : (q : Queue T V) (k : ℕ) (a : Armed T V) → get_or q.slots k None ≡ Some a → armed q (record { slot = k; number = a.number }) ≡ Some a
+  pub at_slot : (q : Slotted T V) (k : ℕ) (a : Armed T V) → get_or q.slots k None ≡ Some a → armed q (record { slot = k; number = a.number }) ≡ Some a
   at_slot q k a e = ap (with_number a.number) e ∙ own_number a.number (Some a) (λ b same. let whole : a ≡ b = cc in ap (λ x. x.number) (sym whole))
 
   -- A slot that has another timer of the same number, or none, changes what stands at that timer alone.
-  pub slot_changed : (old new : Queue T V) (timer : Timer) (now : Option (Armed T V)) → timer.slot < length old.slots
+  pub slot_changed : (old new : Slotted T V) (timer : Timer) (now : Option (Armed T V)) → timer.slot < length old.slots
       → new.slots ≡ set old.slots timer.slot now → HasNumber timer.number now → HasNumber timer.number (get_or old.slots timer.slot None)
       → IsChanged old new timer now
   slot_changed old new timer now within written after before = record {
@@ -132,8 +133,9 @@ module _ {T V : Type 0} where
     }
 
   -- The timers of a queue have turns that were given out, each one of its own.
-  pub are_given_out : (q : Queue T V) → IsGivenOut q.slots q.next_number → AreGivenOut q
+  pub are_given_out : (q : Slotted T V) → IsGivenOut q.slots q.next_number → AreGivenOut q
   are_given_out q given = record {
+    numbers = λ timer a e. let there = in_slot q timer a e in omega (arith, there.1, (given.below timer.slot a there.0).0);
     turns = λ timer a e. (given.below timer.slot a (in_slot q timer a e).0).1;
     distinct = λ one other a b e f turns.
         let here = in_slot q one a e in
@@ -174,7 +176,7 @@ module _ {T V : Type 0} {cmp : T → T → Ordering} (o : IsTotalOrder cmp) wher
       by_test true e = e
       by_test false e = let early = upto o a.at b.at now (not_after _ _ first) e in absurd cc
 
-  module _ (q : Queue T V) (due : ℕ → Option (Due T)) (link : ℕ → ℕ) (n : ℕ) (i : IsIndexed (λ k. get_or q.slots k None) due link n)
+  module _ (q : Slotted T V) (due : ℕ → Option (Due T)) (link : ℕ → ℕ) (n : ℕ) (i : IsIndexed (λ k. get_or q.slots k None) due link n)
       (s : IsOrdered cmp due) where
     -- What stands at the first place is due after no timer.
     top_first : (k : ℕ) (a : Armed T V) → get_or q.slots k None ≡ Some a → IsAtMost cmp (due 0) (own_due k (Some a))

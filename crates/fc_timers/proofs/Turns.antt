@@ -7,7 +7,7 @@ use Rattle.std.specs.Cmp.{IsTotalOrder}
 use Rattle.std.specs.Ordering.{ordering_reverse}
 use Rattle.std.specs.declared.cmp.Ordering.{Ordering}
 use Rattle.std.specs.declared.cmp.Ordering.TheVariants.{Less, Equal, Greater}
-use Rattle.fc_timers.specs.Timers.{by_turn, due_first}
+use Rattle.fc_timers.specs.Slotted.{by_turn, due_first}
 
 turned : (r : Ordering) (b c : Bool) → (b ≡ false → c ≡ true) → by_turn (ordering_reverse r) b ≡ false → by_turn r c ≡ true
 turned Less b c turns h = refl

@@ -4,7 +4,7 @@ use Rattle.std.specs.declared.cmp.Ordering.{Ordering}
 use Rattle.fc_timers.specs.declared.timer.Armed.{Armed}
 use Rattle.fc_timers.specs.declared.slot.Due.{Due}
 use Rattle.fc_timers.specs.declared.slot.Slot.{Slot}
-use Rattle.fc_timers.specs.Timers.{Queue, IsEarliest, due_first}
+use Rattle.fc_timers.specs.Slotted.{Slotted, IsEarliest, due_first}
 
 module _ {T V : Type 0} where
   abbrev pub helds : List (Slot T V) → List (Option (Armed T V))
@@ -118,7 +118,7 @@ module _ {T V : Type 0} (cmp : T → T → Ordering) where
     pub listed : IsVacantList (helds slots) (links slots) vacancies vacant
 
   -- The slot that is named holds the timer that comes out first.
-  pub record IsFirst (q : Queue T V) (d : Due T) : Type 0 where
+  pub record IsFirst (q : Slotted T V) (d : Due T) : Type 0 where
     pub armed : Armed T V
     pub held : slice_index_or q.slots d.slot None ≡ Some armed
     pub at : armed.at ≡ d.at

@@ -1,3 +1,4 @@
 pub mod Heap
 pub mod InOrder
+pub mod Slotted
 pub mod Timers

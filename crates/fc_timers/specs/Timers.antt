@@ -1,103 +1,80 @@
--- Timers of a queue: what stands at each, and which of them comes out first.
-use Rattle.std.specs.Prelude.{◌≡◌, ◌≢◌, ℕ, ◌+◌, ◌<◌, ◌==◌, leb, Bool, true, false, if◌then◌else◌, List, [], ◌∷◌, length}
-use Rattle.std.specs.Prelude.{Option, Some, None, is_some, count_by, slice_index_or}
+-- A queue of timers as a list: its timers in the order in which they come out.
+use Rattle.std.specs.Prelude.{◌≡◌, ℕ, ◌<◌, ◌≤◌, ◌==◌, ◌&&◌, Bool, true, not, List, [], ◌∷◌, Option, Some, None, All, filter, find}
 use Rattle.std.specs.Fn.{Mut, Called}
-use Rattle.std.specs.Ordering.{is_le, is_gt}
+use Rattle.std.specs.Ordering.{is_gt, is_le, nat_cmp, ordering_then}
 use Rattle.std.specs.declared.cmp.Ordering.{Ordering}
-use Rattle.std.specs.declared.cmp.Ordering.TheVariants.{Less, Equal, Greater}
+use Rattle.fc_base.specs.Ascending.{IsAscending}
 use Rattle.fc_timers.specs.declared.timer.Timer.{Timer}
-use Rattle.fc_timers.specs.declared.timer.Armed.{Armed}
 
--- A queue as contracts see it: the timer that stands in each slot, where one does, the number and turn that are given out next, and how many timers fit before
--- the next request for memory.
+-- A queue as contracts see it: its timers in the order in which they come out, each with its value, at its time and turn; the turn that is given
+-- out next; and how many timers fit before the next request for memory.
 pub record Queue (T V : Type 0) : Type 0 where
-  pub slots : List (Option (Armed T V))
-  pub next_number : ℕ
+  pub timers : List ((T × ℕ) × (Timer × V))
+  pub next_turn : ℕ
   pub room : ℕ
 
+-- The turn that a timer was inserted with, by which no other timer of its queue is named.
+abbrev pub first_turn : Timer → ℕ
+first_turn timer = timer.number
+
+-- Whether both are one timer.
+abbrev pub is_same : Timer → Timer → Bool
+is_same a b = (a.number == b.number) && (a.slot == b.slot)
+
+-- The order of a time and a turn: that of the times, and at one time that of the turns.
+abbrev pub by_time_then_turn : {T : Type 0} → (T → T → Ordering) → T × ℕ → T × ℕ → Ordering
+by_time_then_turn cmp a b = ordering_then (cmp a.0 b.0) (nat_cmp a.1 b.1)
+
 module _ {T V : Type 0} where
-  -- The timer, where it has the number.
-  abbrev pub with_number : ℕ → Option (Armed T V) → Option (Armed T V)
-  with_number n None = None
-  with_number n (Some a) = if a.number == n then Some a else None
+  -- What an entry of the list has.
+  abbrev pub time_of : (T × ℕ) × (Timer × V) → T
+  time_of e = e.0.0
 
-  -- What stands at a timer: its time, its turn and its value, and nothing where it is not in the queue.
-  abbrev pub armed : Queue T V → Timer → Option (Armed T V)
-  armed q timer = with_number timer.number (slice_index_or q.slots timer.slot None)
+  abbrev pub turn_of : (T × ℕ) × (Timer × V) → ℕ
+  turn_of e = e.0.1
 
-  -- The number of timers.
-  abbrev pub timer_count : Queue T V → ℕ
-  timer_count q = count_by is_some q.slots
+  abbrev pub timer_of : (T × ℕ) × (Timer × V) → Timer
+  timer_of e = e.1.0
 
-  -- What an insertion puts in.
-  abbrev pub newly : Queue T V → T → V → Armed T V
-  newly q at value = record { at = at; turn = q.next_number; number = q.next_number; value = value }
+  abbrev pub value_of : (T × ℕ) × (Timer × V) → V
+  value_of e = e.1.1
 
-  -- The timer, if there is one, with another time and turn.
-  abbrev pub renewed : T → ℕ → Option (Armed T V) → Option (Armed T V)
-  renewed at turn None = None
-  renewed at turn (Some a) = Some (record a { at = at; turn = turn })
+  -- The entry of a timer, and none where it is not in the list.
+  abbrev pub found : List ((T × ℕ) × (Timer × V)) → Timer → Option ((T × ℕ) × (Timer × V))
+  found s timer = find (λ e. is_same (timer_of e) timer) s
 
-  -- The one timer has this after a call, or is in the queue no more. Each other timer has what it had.
-  pub record IsChanged (old new : Queue T V) (timer : Timer) (now : Option (Armed T V)) : Type 0 where
-    pub here : armed new timer ≡ now
-    pub others : (other : Timer) → other ≢ timer → armed new other ≡ armed old other
+  -- The list without the entry of a timer.
+  abbrev pub without : List ((T × ℕ) × (Timer × V)) → Timer → List ((T × ℕ) × (Timer × V))
+  without s timer = filter (λ e. not (is_same (timer_of e) timer)) s
 
-  -- Each timer of the queue has a turn that was given out, so that the next one is after all, and no two have the same.
-  pub record AreGivenOut (q : Queue T V) : Type 0 where
-    pub turns : (timer : Timer) (a : Armed T V) → armed q timer ≡ Some a → a.turn < q.next_number
-    pub distinct : (one other : Timer) (a b : Armed T V) → armed q one ≡ Some a → armed q other ≡ Some b → a.turn ≡ b.turn → one ≡ other
+  -- A timer that came out or was cancelled: one whose first turn was given out, and that is not found.
+  abbrev pub IsGone : Queue T V → Timer → Type 0
+  IsGone q timer = (first_turn timer < q.next_turn) × (found q.timers timer ≡ None)
 
-  -- No timer is in the queue.
-  abbrev pub HasNone : Queue T V → Type 0
-  HasNone q = (timer : Timer) → armed q timer ≡ None
+  module _ (cmp : T → T → Ordering) where
+    -- The entries that are due at this time, in order.
+    abbrev pub due_by : List ((T × ℕ) × (Timer × V)) → T → List ((T × ℕ) × (Timer × V))
+    due_by s now = filter (λ e. is_le (cmp (time_of e) now)) s
 
--- A call of h with the time and the value may leave h'.
-abbrev pub GivenTimer : {E T V : Type 0} → Mut E (T × (V × Unit {0})) (Unit {0}) → E → T × V → E → Type 0
-GivenTimer g h pair h' = Called g h (pair.0, (pair.1, tt)) tt h'
+    -- The entries that are due after this time, in order.
+    abbrev pub due_after : List ((T × ℕ) × (Timer × V)) → T → List ((T × ℕ) × (Timer × V))
+    due_after s now = filter (λ e. is_gt (cmp (time_of e) now)) s
 
--- Whether a time and a turn come first: by the time, and at one time by the turn.
-abbrev pub by_turn : Ordering → Bool → Bool
-by_turn Less _ = true
-by_turn Equal turns = turns
-by_turn Greater _ = false
+    -- No timer is due at this time.
+    abbrev pub NoneDue : List ((T × ℕ) × (Timer × V)) → T → Type 0
+    NoneDue s now = All (λ e. is_gt (cmp (time_of e) now) ≡ true) s
 
-module _ {T : Type 0} (cmp : T → T → Ordering) where
-  abbrev pub due_first : T → ℕ → T → ℕ → Bool
-  due_first s m t n = by_turn (cmp s t) (leb m n)
+    -- The list ascends. Each timer stands there once, with a turn that was given out, as its first one was.
+    pub record IsInOrder (q : Queue T V) : Type 0 where
+      pub ascending : IsAscending (by_time_then_turn cmp) q.timers
+      pub given_out : All (λ e. (turn_of e < q.next_turn) × (first_turn (timer_of e) < q.next_turn)) q.timers
+      pub once : All (λ e. found q.timers (timer_of e) ≡ Some e) q.timers
 
-module _ {T V : Type 0} (cmp : T → T → Ordering) where
-  -- Whether the one timer comes out before the other.
-  abbrev pub precedes : Armed T V → Armed T V → Bool
-  precedes a b = due_first cmp a.at a.turn b.at b.turn
+-- A call of f with the timer, the time and the value may leave f'.
+abbrev pub GivenTimer : {F T V : Type 0} → Mut F (Timer × (T × (V × Unit {0}))) (Unit {0}) → F → (T × ℕ) × (Timer × V) → F → Type 0
+GivenTimer g f e f' = Called g f (timer_of e, (time_of e, (value_of e, tt))) tt f'
 
-  -- A timer of the queue, which precedes each of them.
-  pub record IsEarliest (q : Queue T V) (timer : Timer) (a : Armed T V) : Type 0 where
-    pub stands : armed q timer ≡ Some a
-    pub first : (other : Timer) (b : Armed T V) → armed q other ≡ Some b → precedes a b ≡ true
-
-  -- The earliest timer was due at this time, and was taken out; its time and value are the pair.
-  pub record IsPopped (old new : Queue T V) (now : T) (pair : T × V) : Type 0 where
-    pub timer : Timer
-    pub taken : Armed T V
-    pub answer : pair ≡ (taken.at, taken.value)
-    pub earliest : IsEarliest old timer taken
-    pub due : is_le (cmp taken.at now) ≡ true
-    pub changed : IsChanged old new timer None
-
-  -- Timers that were due at this time, with these times and values, came out one after another, each the earliest, and calls by R with them in turn
-  -- took f to f'.
-  abbrev pub DrainsInTurn : {F : Type 0} → (F → T × V → F → Type 0) → T → F → List (T × V) → F → Queue T V → Queue T V → Type 0
-  DrainsInTurn R now f [] f' old new = (f' ≡ f) × (new ≡ old)
-  DrainsInTurn {F} R now f (pair ∷ pairs) f' old new =
-      (g : F) × (next : Queue T V) × IsPopped old next now pair × R f pair g × DrainsInTurn R now g pairs f' next new
-
-  -- The same, of so many timers as are fewer.
-  pub record IsDrained {F : Type 0} (R : F → T × V → F → Type 0) (now : T) (f f' : F) (old new : Queue T V) : Type 0 where
-    pub pairs : List (T × V)
-    pub in_turn : DrainsInTurn R now f pairs f' old new
-    pub fewer : timer_count old ≡ timer_count new + length pairs
-
-  -- No timer is due at this time.
-  abbrev pub NoneDue : Queue T V → T → Type 0
-  NoneDue q now = (timer : Timer) (a : Armed T V) → armed q timer ≡ Some a → is_gt (cmp a.at now) ≡ true
+-- Calls by R with these entries in turn took f to f'.
+abbrev pub HandsInTurn : {F E : Type 0} → (F → E → F → Type 0) → F → List E → F → Type 0
+HandsInTurn R f [] f' = f' ≡ f
+HandsInTurn {F} R f (e ∷ es) f' = (g : F) × R f e g × HandsInTurn R g es f'

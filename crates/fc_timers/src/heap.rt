@@ -2,7 +2,7 @@
 //! its place, from where it can be taken out, or moved once its time is another.
 ghost use Rattle.std.specs.Prelude.{◌≡◌, ◌+◌, ◌*◌, ◌-◌, ◌/◌, ℕ, ◌<◌, IsSome, Some, None, IfSome, IfNone, is_some, count_by, length, slice_index_or, slice_set};
 ghost use Rattle.fc_timers.specs.Heap.{AreVacantKept, earlier_found, IsFirstBelow, IsHeap, IsOpen, IsAbove, IsAtMost, IsOver, IsUnder, due_at as due_in, dues, held_at, helds, link_at as link_in, links};
-ghost use Rattle.fc_timers.specs.Timers.{renewed};
+ghost use Rattle.fc_timers.specs.Slotted.{renewed};
 
 use crate::order::precedes;
 use crate::slot::{Due, Slot};

@@ -4,9 +4,12 @@
 mod heap;
 mod order;
 pub mod queue;
+pub mod reschedule_error;
 mod slot;
+mod slots;
 pub mod timer;
 
 pub use fc_base::TryReserveError;
 pub use queue::TimerQueue;
-pub use timer::{Armed, Timer};
+pub use reschedule_error::RescheduleError;
+pub use timer::Timer;

@@ -1,6 +1,6 @@
 //! Which of two timers is due first.
 ghost use Rattle.std.specs.Prelude.{◌≡◌};
-ghost use Rattle.fc_timers.specs.Timers.{due_first};
+ghost use Rattle.fc_timers.specs.Slotted.{due_first};
 
 use crate::slot::Due;
 use std::cmp::Ordering;

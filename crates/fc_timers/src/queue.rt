@@ -1,74 +1,74 @@
-//! The queue.
-ghost use Rattle.std.specs.Prelude.{◌≡◌, ℕ, ◌==◌, ◌∷◌, ◌++◌, [], if◌then◌else◌, ◌+◌, ◌<◌, ◌≤◌, ◌⊎◌, ◌↔◌, IsTrue, IfSome, IfNone, OnSome, IfOk, IfErr, OnOk, OnErr, IsErr, IsOk, IsSome, Some, None, count_by, is_some, length, map, slice_index_or, slice_set, option_copied, true};
-ghost use Rattle.std.specs.Option.{option_map};
+//! The queue, as its callers see it: a list of timers in the order in which they come out.
+ghost use Rattle.std.specs.Prelude.{◌≡◌, ℕ, ◌==◌, ◌∷◌, [], if◌then◌else◌, ◌+◌, ◌<◌, ◌≤◌, ◌⊎◌, ◌↔◌, IsTrue, IfSome, IfNone, OnSome, IfOk, IfErr, OnOk, OnErr, IsErr, IsOk, None, Some, is_some, length, option_map, slice_get, true};
+ghost use Rattle.std.specs.Map.Iter.{deref_pair};
+ghost use Rattle.std.specs.Option.{option_copied};
 ghost use Rattle.std.specs.Ordering.{is_le};
 ghost use Rattle.fc_base.specs.declared.try_reserve_error.TryReserveError.{TryReserveError as Error};
 ghost use Rattle.fc_base.specs.Growth.{append_error};
-ghost use Rattle.fc_timers.specs.Timers.{AreGivenOut, GivenTimer, HasNone, IsChanged, IsDrained, IsEarliest, IsPopped, NoneDue, armed, newly, renewed, timer_count};
-ghost use Rattle.fc_timers.specs.Heap.{IsFirst};
-ghost use Rattle.fc_timers.specs.declared.timer.Armed.{Armed as Held};
-ghost use Rattle.fc_timers.specs.declared.timer.Timer.{Timer as Key};
+ghost use Rattle.fc_base.specs.OneKey.{put};
+ghost use Rattle.fc_timers.specs.declared.reschedule_error.RescheduleError.{RescheduleError as Refusal};
+ghost use Rattle.fc_timers.specs.Timers.{GivenTimer, HandsInTurn, IsInOrder, NoneDue, by_time_then_turn, due_after, due_by, first_turn, found, time_of, value_of, without};
 
-use crate::heap::{put, retime, take};
-use crate::slot::{Due, Slot};
-use crate::timer::{Armed, Timer};
+use crate::reschedule_error::RescheduleError;
+use crate::slots::Slots;
+use crate::timer::Timer;
 use fc_base::{Handle, TryReserveError};
 use std::alloc::Global;
 use std::marker::Model;
 
 /// Timers with their times and values, which come out in the order of their times, and those of equal times in the order in which they were
-/// inserted. A call takes a number of steps that grows with the logarithm of the most timers that the queue held at once. Only `try_insert`
-/// and `try_reserve` take memory.
+/// put there. A call takes a number of steps that grows with the logarithm of the most timers that the queue held at once. Only `try_insert`,
+/// `try_with_capacity` and `try_reserve` take memory.
 #[derive(Drop)]
 pub struct TimerQueue<T: Ord, V, A: Handle = Global> {
-    slots: Vec<Slot<T, V>, A>,
-    len: usize,
-    // The number and the turn that are given out next.
-    next_number: u64,
-    // The first slot of the list of those where no timer stands, or a number that is no slot's.
-    vacant: usize,
+    slots: Slots<T, V, A>,
 }
 
 impl<T: Ord, V, A: Handle> Model for TimerQueue<T, V, A> {
     ghost use Rattle.fc_timers.specs.Timers.{Queue};
-    ghost use Rattle.fc_timers.specs.Heap.{helds, IsSound};
-    ghost use Rattle.std.specs.Prelude.{vec_capacity};
+    ghost use Rattle.fc_timers.specs.Slotted.{AreGivenOut};
+    ghost use Rattle.fc_timers.specs.InOrder.{in_order};
 
     ghost Value = { Queue T V };
 
-    ghost view = { λ q. record { slots = helds q.slots.items; next_number = q.next_number; room = vec_capacity q.slots } };
+    ghost view = { λ q. record { timers = in_order T.cmp q.slots; next_turn = q.slots.next_number; room = q.slots.room } };
 
-    ghost invariant = { λ q. IsSound T.cmp q.slots.items q.len q.next_number q.vacant };
+    ghost invariant = { λ q. AreGivenOut q.slots };
 }
 
 impl<T: Ord, V, A: Handle> TimerQueue<T, V, A> {
     /// A queue of no timer, which takes no memory. Later requests go to `alloc`.
     pub fn new(alloc: A) -> TimerQueue<T, V, A>
-        ensures none { HasNone result }
-        ensures count { timer_count result ≡ 0 }
-        ensures number { result.next_number ≡ 0 }
+        ensures timers { result.timers ≡ [] }
+        ensures turn { result.next_turn ≡ 0 }
         ensures room { result.room ≡ 0 }
     {
         TimerQueue {
-            slots: Vec::new(alloc),
-            len: 0,
-            next_number: 0,
-            vacant: usize::MAX,
+            slots: Slots::new(alloc),
         }
+    }
+
+    /// A queue of no timer, as `new` makes it.
+    pub fn default(alloc: A) -> TimerQueue<T, V, A>
+        ensures timers { result.timers ≡ [] }
+        ensures turn { result.next_turn ≡ 0 }
+        ensures room { result.room ≡ 0 }
+    {
+        TimerQueue::new(alloc)
     }
 
     /// The number of timers.
     pub fn len(&self) -> usize
-        ensures value { result ≡ timer_count self.now }
-        ensures given_out { AreGivenOut self.now }
+        ensures value { result ≡ length self.now.timers }
+        ensures in_order { IsInOrder T.cmp self.now }
     {
-        self.len
+        self.slots.len()
     }
 
     /// How many timers fit before the next request for memory.
     pub fn capacity(&self) -> usize
         ensures value { result ≡ self.now.room }
-        ensures holds_all { timer_count self.now ≤ self.now.room }
+        ensures holds_all { length self.now.timers ≤ self.now.room }
     {
         self.slots.capacity()
     }
@@ -79,100 +79,53 @@ impl<T: Ord, V, A: Handle> TimerQueue<T, V, A> {
     /// # Errors
     /// `CapacityOverflow` exactly where the length plus `additional` passes `usize::MAX`, else `AllocError`. The queue is then as it was.
     pub fn try_reserve(&mut self, additional: usize) -> Result<(), TryReserveError>
-        ensures room { OnOk result (timer_count self.old + additional ≤ self.new.room) }
+        ensures room { OnOk result (length self.old.timers + additional ≤ self.new.room) }
         ensures timers { self.new ≡ record self.old { room = self.new.room } }
         ensures kept { self.old.room ≤ self.new.room }
-        ensures fits { timer_count self.old + additional ≤ self.old.room → IsOk result }
-        ensures full { usize.MAX < timer_count self.old + additional → IsErr result }
+        ensures fits { length self.old.timers + additional ≤ self.old.room → IsOk result }
+        ensures full { usize.MAX < length self.old.timers + additional → IsErr result }
         ensures unchanged { OnErr result (self.new ≡ self.old) }
-        ensures error { IfErr result (λ e. e ≡ append_error (timer_count self.old) additional) }
+        ensures error { IfErr result (λ e. e ≡ append_error (length self.old.timers) additional) }
     {
-        let vacant = self.slots.len() - self.len;
-        if additional <= vacant {
-            return Ok(());
-        }
-        if usize::MAX - self.len < additional {
-            return Err(TryReserveError::CapacityOverflow);
-        }
-        self.slots.reserve(additional - vacant)?;
-        Ok(())
+        self.slots.try_reserve(additional)
     }
 
     /// Whether there is no timer.
     pub fn is_empty(&self) -> bool
-        ensures { IsTrue result ↔ (timer_count self.now ≡ 0) }
+        ensures { IsTrue result ↔ (self.now.timers ≡ []) }
     {
-        self.len == 0
+        self.slots.is_empty()
     }
 
-    /// The timer's time, turn and value. `None` where it is not in the queue: it came out, or was cancelled.
-    pub fn get(&self, timer: Timer) -> Option<&Armed<T, V>>
-        ensures { option_copied result ≡ armed self.now timer }
+    /// The timer's time and its value. `None` where it is not in the queue: it came out, or was cancelled.
+    pub fn get(&self, timer: Timer) -> Option<(&T, &V)>
+        ensures { option_map deref_pair result ≡ option_map (λ e. (time_of e, value_of e)) (found self.now.timers timer) }
     {
-        match self.standing(timer.slot) {
-            Some(armed) => {
-                if armed.number == timer.number {
-                    Some(armed)
-                } else {
-                    None
-                }
-            }
-            None => None,
-        }
+        let armed = self.slots.get(timer)?;
+        Some((&armed.at, &armed.value))
     }
 
     /// Whether the timer is in the queue: it did not come out, and was not cancelled.
     pub fn contains(&self, timer: Timer) -> bool
-        ensures { result ≡ is_some (armed self.now timer) }
+        ensures { result ≡ is_some (found self.now.timers timer) }
     {
-        self.get(timer).is_some()
-    }
-
-    // The timer that stands in a slot.
-    fn standing(&self, slot: usize) -> Option<&Armed<T, V>>
-        ensures { option_copied result ≡ slice_index_or self.now.slots slot None }
-    {
-        match self.slots.get(slot) {
-            Some(slot) => slot.held.as_ref(),
-            None => None,
-        }
+        self.slots.contains(timer)
     }
 
     /// The time of the timer that comes out next: none is due before it. `None` where there is no timer.
     pub fn next_deadline(&self) -> Option<&T>
-        ensures none { IfNone result (HasNone self.now × (timer_count self.now ≡ 0)) }
-        ensures earliest { IfSome result (λ at. (timer : Key) × (a : Held T V) × (at.now ≡ a.at) × IsEarliest T.cmp self.now timer a) }
+        ensures { option_copied result ≡ option_map time_of (slice_get self.now.timers 0) }
     {
-        Some(&self.first()?.at)
+        self.slots.next_deadline()
     }
 
     /// The timer that comes out next, with its time and its value, where it is due at this time. It stays in the queue. `None` where no timer is due.
     pub fn first_due(&self, now: &T) -> Option<(Timer, &T, &V)>
-        ensures first { IfSome result (λ f. (a : Held T V) × (f.1.now ≡ a.at) × (f.2.now ≡ a.value) × IsEarliest T.cmp self.now f.0 a) }
+        ensures first { IfSome result (λ f. (turn : ℕ) × (slice_get self.now.timers 0 ≡ Some ((f.1.now, turn), (f.0, f.2.now)))) }
         ensures due { IfSome result (λ f. is_le (T.cmp f.1.now now.now) ≡ true) }
-        ensures none { IfNone result (NoneDue T.cmp self.now now.now) }
+        ensures none { IfNone result (NoneDue T.cmp self.now.timers now.now) }
     {
-        let first = self.first()?;
-        if first.at.cmp(now).is_gt() {
-            return None;
-        }
-        let armed = self.standing(first.slot)?;
-        let timer = Timer {
-            slot: first.slot,
-            number: armed.number,
-        };
-        Some((timer, &armed.at, &armed.value))
-    }
-
-    // The timer that comes out next, which stands at the first place of the heap.
-    fn first(&self) -> Option<&Due<T>>
-        ensures none { IfNone result (HasNone self.now × (timer_count self.now ≡ 0)) }
-        ensures earliest { IfSome result (λ first. IsFirst T.cmp self.now first.now) }
-    {
-        match self.slots.get(0) {
-            Some(slot) => slot.due.as_ref(),
-            None => None,
-        }
+        self.slots.first_due(now)
     }
 }
 
@@ -185,8 +138,8 @@ impl<T: Ord + Copy + Drop, V: Drop, A: Handle> TimerQueue<T, V, A> {
         alloc: A,
         capacity: usize,
     ) -> Result<TimerQueue<T, V, A>, TryReserveError>
-        ensures none { IfOk result (λ q. HasNone q × (timer_count q ≡ 0)) }
-        ensures number { IfOk result (λ q. q.next_number ≡ 0) }
+        ensures timers { IfOk result (λ q. q.timers ≡ []) }
+        ensures turn { IfOk result (λ q. q.next_turn ≡ 0) }
         ensures room { IfOk result (λ q. capacity ≤ q.room) }
         ensures error { IfErr result (λ e. e ≡ Error.AllocError) }
     {
@@ -202,191 +155,102 @@ impl<T: Ord + Copy + Drop, V: Drop, A: Handle> TimerQueue<T, V, A> {
     /// `AllocError` where a request for memory was refused; `CapacityOverflow` where the queue gave out 2^64 - 1 turns. The queue is then
     /// as it was, and time and value come back.
     pub fn try_insert(&mut self, at: T, value: V) -> Result<Timer, (T, V, TryReserveError)>
-        ensures inserted { IfOk result (λ timer. IsChanged self.old self.new timer (Some (newly self.old at value))) }
-        ensures fresh { IfOk result (λ timer. armed self.old timer ≡ None) }
-        ensures count { OnOk result (timer_count self.new ≡ timer_count self.old + 1) }
-        ensures number { OnOk result (self.new.next_number ≡ self.old.next_number + 1) }
+        ensures timers { IfOk result (λ timer. self.new.timers ≡ put (by_time_then_turn T.cmp) self.old.timers (at, self.old.next_turn) (timer, value)) }
+        ensures fresh { IfOk result (λ timer. found self.old.timers timer ≡ None) }
+        ensures first { IfOk result (λ timer. first_turn timer ≡ self.old.next_turn) }
+        ensures count { OnOk result (length self.new.timers ≡ length self.old.timers + 1) }
+        ensures turn { OnOk result (self.new.next_turn ≡ self.old.next_turn + 1) }
         ensures room { self.old.room ≤ self.new.room }
-        ensures fits { timer_count self.old < self.old.room → self.old.next_number < u64.MAX → IsOk result }
+        ensures fits { length self.old.timers < self.old.room → self.old.next_turn < u64.MAX → IsOk result }
         ensures unchanged { OnErr result (self.new ≡ self.old) }
         ensures back { IfErr result (λ e. (e.0 ≡ at) × (e.1 ≡ value)) }
-        ensures error { IfErr result (λ e. e.2 ≡ (if self.old.next_number == u64.MAX then Error.CapacityOverflow else Error.AllocError)) }
-        ensures used_up { self.old.next_number ≡ u64.MAX → IsErr result }
+        ensures error { IfErr result (λ e. e.2 ≡ (if self.old.next_turn == u64.MAX then Error.CapacityOverflow else Error.AllocError)) }
+        ensures used_up { self.old.next_turn ≡ u64.MAX → IsErr result }
     {
-        if self.next_number == u64::MAX {
-            return Err((at, value, TryReserveError::CapacityOverflow));
-        }
-        match self.make_vacancy() {
-            Ok(()) => Ok(self.fill(at, value)),
-            Err(error) => Err((at, value, error)),
-        }
-    }
-
-    // Has a slot where no timer stands. It asks for memory only where one stands in each.
-    fn make_vacancy(&mut self) -> Result<(), TryReserveError>
-        ensures vacancy { OnOk result (timer_count self.new < length self.new.slots) }
-        ensures slots { (k : ℕ) → slice_index_or self.new.slots k None ≡ slice_index_or self.old.slots k None }
-        ensures count { timer_count self.new ≡ timer_count self.old }
-        ensures number { self.new.next_number ≡ self.old.next_number }
-        ensures room { self.old.room ≤ self.new.room }
-        ensures fits { timer_count self.old < self.old.room → IsOk result }
-        ensures unchanged { OnErr result (self.new ≡ self.old) }
-        ensures error { IfErr result (λ e. e ≡ Error.AllocError) }
-    {
-        if self.len < self.slots.len() {
-            Ok(())
-        } else {
-            self.add_slot()
-        }
-    }
-
-    // Adds a slot, where no timer stands.
-    fn add_slot(&mut self) -> Result<(), TryReserveError>
-        ensures slots { OnOk result (self.new.slots ≡ self.old.slots ++ None ∷ []) }
-        ensures number { self.new.next_number ≡ self.old.next_number }
-        ensures room { self.old.room ≤ self.new.room }
-        ensures fits { length self.old.slots < self.old.room → IsOk result }
-        ensures unchanged { OnErr result (self.new ≡ self.old) }
-        ensures error { IfErr result (λ e. e ≡ Error.AllocError) }
-    {
-        let slot = self.slots.len();
-        self.slots.reserve(1)?;
-        self.slots.push_reserved(Slot {
-            held: None,
-            due: None,
-            link: self.vacant,
-        });
-        self.vacant = slot;
-        Ok(())
-    }
-
-    // Puts a timer into the first slot of the list of those where none stands.
-    fn fill(&mut self, at: T, value: V) -> Timer
-        requires number { self.old.next_number < u64.MAX }
-        requires vacancy { timer_count self.old < length self.old.slots }
-        ensures within { result.slot < length self.old.slots }
-        ensures vacant { slice_index_or self.old.slots result.slot None ≡ None }
-        ensures slots { self.new.slots ≡ slice_set self.old.slots result.slot (Some (newly self.old at value)) }
-        ensures number { self.new.next_number ≡ self.old.next_number + 1 }
-        ensures timer { result.number ≡ self.old.next_number }
-        ensures room { self.new.room ≡ self.old.room }
-    {
-        let slot = self.vacant;
-        let number = self.next_number;
-        self.vacant = self.slots[slot].link;
-        let armed = Armed {
-            at,
-            turn: number,
-            number,
-            value,
-        };
-        put(self.slots.as_mut_slice(), slot, armed, self.len);
-        self.len += 1;
-        self.next_number += 1;
-        Timer { slot, number }
+        self.slots.try_insert(at, value)
     }
 
     /// Takes a timer out, and answers its time and value. `None` where it is not in the queue, which then stays as it is.
     pub fn cancel(&mut self, timer: Timer) -> Option<(T, V)>
-        ensures answer { result ≡ option_map (λ a. (a.at, a.value)) (armed self.old timer) }
-        ensures changed { IsChanged self.old self.new timer None }
+        ensures answer { result ≡ option_map (λ e. (time_of e, value_of e)) (found self.old.timers timer) }
+        ensures timers { self.new.timers ≡ without self.old.timers timer }
+        ensures count { OnSome result (length self.new.timers + 1 ≡ length self.old.timers) }
+        ensures turn { self.new.next_turn ≡ self.old.next_turn }
+        ensures room { self.new.room ≡ self.old.room }
         ensures unchanged { IfNone result (self.new ≡ self.old) }
-        ensures count { OnSome result (timer_count self.new + 1 ≡ timer_count self.old) }
-        ensures number { self.new.next_number ≡ self.old.next_number }
-        ensures room { self.new.room ≡ self.old.room }
     {
-        match self.get(timer) {
-            Some(_armed) => self.take(timer.slot),
-            None => None,
-        }
-    }
-
-    // Takes the timer of a slot out.
-    fn take(&mut self, slot: usize) -> Option<(T, V)>
-        requires { IsSome (slice_index_or self.old.slots slot None) }
-        ensures answer { result ≡ option_map (λ a. (a.at, a.value)) (slice_index_or self.old.slots slot None) }
-        ensures slots { self.new.slots ≡ slice_set self.old.slots slot None }
-        ensures number { self.new.next_number ≡ self.old.next_number }
-        ensures room { self.new.room ≡ self.old.room }
-    {
-        self.len -= 1;
-        let armed = take(self.slots.as_mut_slice(), slot, self.len, self.vacant)?;
-        self.vacant = slot;
+        let armed = self.slots.cancel(timer)?;
         Some((armed.at, armed.value))
     }
 
     /// Takes out all timers, and drops them. The room stays, and none of them is found again. It takes no memory.
     pub fn clear(&mut self)
-        ensures none { HasNone self.new }
-        ensures count { timer_count self.new ≡ 0 }
-        ensures number { self.new.next_number ≡ self.old.next_number }
+        ensures timers { self.new.timers ≡ [] }
+        ensures turn { self.new.next_turn ≡ self.old.next_turn }
         ensures room { self.new.room ≡ self.old.room }
     {
         self.slots.clear();
-        self.len = 0;
-        self.vacant = usize::MAX;
+    }
+
+    /// Gives back room that no timer needs, and all of it where there is no timer. A timer stays in the slot that it was given, so room that timers
+    /// before it left is kept.
+    pub fn shrink_to_fit(&mut self)
+        ensures timers { self.new ≡ record self.old { room = self.new.room } }
+        ensures room { self.new.room ≤ self.old.room }
+        ensures frees { self.old.timers ≡ [] → self.new.room ≡ 0 }
+    {
+        if self.slots.is_empty() {
+            self.slots.clear();
+            self.slots.shrink_to_fit();
+        } else {
+            self.slots.shrink_to_fit();
+        }
     }
 
     /// Gives a timer another time, after those of that time, as if it were inserted anew, and answers the time that it had. It takes no memory.
-    /// `None` where the timer is not in the queue, or 2^64 - 1 turns were given out; the queue then stays as it is.
-    pub fn reschedule(&mut self, timer: Timer, at: T) -> Option<T>
-        ensures answer { IfSome result (λ was. option_map (λ a. a.at) (armed self.old timer) ≡ Some was) }
-        ensures moved { OnSome result (IsChanged self.old self.new timer (renewed at self.old.next_number (armed self.old timer))) }
-        ensures number { OnSome result (self.new.next_number ≡ self.old.next_number + 1) }
-        ensures none { IfNone result ((armed self.old timer ≡ None) ⊎ (self.old.next_number ≡ u64.MAX)) }
+    ///
+    /// # Errors
+    /// `Gone` exactly where the timer is not in the queue, `UsedUp` exactly where it is there and the queue gave out 2^64 - 1 turns. The queue is
+    /// then as it was.
+    pub fn reschedule(&mut self, timer: Timer, at: T) -> Result<T, RescheduleError>
+        ensures answer { IfOk result (λ was. option_map time_of (found self.old.timers timer) ≡ Some was) }
+        ensures timers { OnOk result (option_map (λ e. put (by_time_then_turn T.cmp) (without self.old.timers timer) (at, self.old.next_turn) (timer, value_of e)) (found self.old.timers timer) ≡ Some self.new.timers) }
+        ensures count { length self.new.timers ≡ length self.old.timers }
+        ensures turn { OnOk result (self.new.next_turn ≡ self.old.next_turn + 1) }
+        ensures room { self.new.room ≡ self.old.room }
+        ensures refused { OnErr result ((found self.old.timers timer ≡ None) ⊎ (self.old.next_turn ≡ u64.MAX)) }
+        ensures error { IfErr result (λ e. e ≡ (if is_some (found self.old.timers timer) then Refusal.UsedUp else Refusal.Gone)) }
+        ensures used_up { self.old.next_turn ≡ u64.MAX → IsErr result }
+        ensures unchanged { OnErr result (self.new ≡ self.old) }
+    {
+        self.slots.reschedule(timer, at)
+    }
+
+    /// Takes the first timer out, where it is due at this time, and answers it with its time and its value. `None` where no timer is due, and the
+    /// queue stays as it is. Called in a loop until then, it takes all that are due, in order.
+    pub fn pop_due(&mut self, now: &T) -> Option<(Timer, T, V)>
+        ensures popped { IfSome result (λ p. (turn : ℕ) × (self.old.timers ≡ ((p.1, turn), (p.0, p.2)) ∷ self.new.timers)) }
+        ensures due { IfSome result (λ p. is_le (T.cmp p.1 now.now) ≡ true) }
+        ensures none { IfNone result (NoneDue T.cmp self.old.timers now.now) }
+        ensures turn { self.new.next_turn ≡ self.old.next_turn }
+        ensures room { self.new.room ≡ self.old.room }
         ensures unchanged { IfNone result (self.new ≡ self.old) }
-        ensures count { timer_count self.new ≡ timer_count self.old }
-        ensures room { self.new.room ≡ self.old.room }
     {
-        let was = self.get(timer)?.at;
-        if self.next_number == u64::MAX {
-            return None;
-        }
-        self.renew(timer.slot, at);
-        Some(was)
+        let (timer, armed) = self.slots.pop_due(now)?;
+        Some((timer, armed.at, armed.value))
     }
 
-    // Gives the timer of a slot another time, and the next turn.
-    fn renew(&mut self, slot: usize, at: T)
-        requires number { self.old.next_number < u64.MAX }
-        requires held { IsSome (slice_index_or self.old.slots slot None) }
-        ensures slots { self.new.slots ≡ slice_set self.old.slots slot (renewed at self.old.next_number (slice_index_or self.old.slots slot None)) }
-        ensures number { self.new.next_number ≡ self.old.next_number + 1 }
-        ensures room { self.new.room ≡ self.old.room }
-    {
-        retime(self.slots.as_mut_slice(), slot, at, self.next_number);
-        self.next_number += 1;
-    }
-
-    /// Takes the first timer out, where it is due at this time, and answers its time and value. `None` where no timer is due, and the queue stays as
-    /// it is. Called in a loop until then, it takes all that are due, in order.
-    pub fn pop_due(&mut self, now: &T) -> Option<(T, V)>
-        ensures popped { IfSome result (λ pair. IsPopped T.cmp self.old self.new now.now pair) }
-        ensures none { IfNone result (NoneDue T.cmp self.old now.now) }
-        ensures unchanged { IfNone result (self.new ≡ self.old) }
-        ensures count { OnSome result (timer_count self.new + 1 ≡ timer_count self.old) }
-        ensures number { self.new.next_number ≡ self.old.next_number }
-        ensures room { self.new.room ≡ self.old.room }
-    {
-        let first = *self.first()?;
-        if first.at.cmp(now).is_gt() {
-            None
-        } else {
-            self.take(first.slot)
-        }
-    }
-
-    /// Takes out all timers that are due at this time, and calls the closure with the time and value of each, in the order in which they come
-    /// out. It takes no memory.
-    pub fn drain_due<F: FnMut(T, V)>(&mut self, now: &T, mut f: F)
+    /// Takes out all timers that are due at this time, and calls the closure with each, its time and its value, in the order in which they come out. It
+    /// takes no memory.
+    pub fn drain_due<F: FnMut(Timer, T, V)>(&mut self, now: &T, mut f: F)
         requires callable { F.IsAlwaysCallable f }
-        ensures drained { (last : F) × IsDrained T.cmp (GivenTimer F.FnMut) now.now f last self.old self.new }
-        ensures none { NoneDue T.cmp self.new now.now }
-        ensures number { self.new.next_number ≡ self.old.next_number }
+        ensures timers { self.new.timers ≡ due_after T.cmp self.old.timers now.now }
+        ensures handed { (last : F) × HandsInTurn (GivenTimer F.FnMut) f (due_by T.cmp self.old.timers now.now) last }
+        ensures turn { self.new.next_turn ≡ self.old.next_turn }
         ensures room { self.new.room ≡ self.old.room }
     {
-        'due: while let Some((at, value)) = self.pop_due(now) {
-            f(at, value);
+        'due: while let Some((timer, at, value)) = self.pop_due(now) {
+            f(timer, at, value);
         }
     }
 }

@@ -22,8 +22,9 @@ fn filled(queue: &mut Small<'_>) -> Option<u64> {
 // Whether as many timers as there are come out in order, and one more is put in then.
 fn is_kept(queue: &mut Small<'_>, count: u64) -> bool {
     for i in 0..count {
-        if queue.pop_due(&count) != Some((i, i)) {
-            return false;
+        match queue.pop_due(&count) {
+            Some((_timer, at, value)) if at == i && value == i => {}
+            _ => return false,
         }
     }
     queue.is_empty() && queue.try_insert(7, 7).is_ok() && queue.len() == 1

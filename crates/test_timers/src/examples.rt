@@ -1,6 +1,6 @@
 //! Examples of the queue of timers, as the pages show them.
 use fc_budget::Budget;
-use fc_timers::TimerQueue;
+use fc_timers::{RescheduleError, TimerQueue};
 use std::alloc::Global;
 use std::mem::size_of;
 use std::test::Fail;
@@ -11,9 +11,9 @@ fn timers(rt: HostRuntime) -> Result<(), Fail> {
     // example: TimerQueue::new, TimerQueue::try_insert, TimerQueue::next_deadline, TimerQueue::pop_due, TimerQueue::len, TimerQueue::is_empty
     let mut queue = TimerQueue::new(alloc);
     queue.try_insert(30u64, 'a')?;
-    queue.try_insert(10, 'b')?;
+    let timer = queue.try_insert(10, 'b')?;
     assert_eq!(rt; (queue.next_deadline(), queue.len()), (Some(&10), 2));
-    assert_eq!(rt; queue.pop_due(&20), Some((10, 'b')));
+    assert_eq!(rt; queue.pop_due(&20), Some((timer, 10, 'b')));
     assert_eq!(rt; (queue.pop_due(&20), queue.is_empty()), (None, false));
     // end
     Ok(())
@@ -25,10 +25,11 @@ fn timers_by_their_handles(rt: HostRuntime) -> Result<(), Fail> {
     // example: TimerQueue::reschedule, TimerQueue::cancel, TimerQueue::get
     let mut queue = TimerQueue::new(alloc);
     let timer = queue.try_insert(10u64, 'a')?;
-    assert_eq!(rt; queue.reschedule(timer, 40), Some(10));
-    assert_eq!(rt; queue.get(timer).map(|armed| armed.at), Some(40));
+    assert_eq!(rt; queue.reschedule(timer, 40), Ok(10));
+    assert_eq!(rt; queue.get(timer), Some((&40, &'a')));
     assert_eq!(rt; queue.cancel(timer), Some((40, 'a')));
-    assert!(rt; queue.get(timer).is_none());
+    assert_eq!(rt; queue.get(timer), None);
+    assert_eq!(rt; queue.reschedule(timer, 50), Err(RescheduleError::Gone));
     // end
     Ok(())
 }
@@ -43,7 +44,7 @@ fn all_that_are_due(rt: HostRuntime) -> Result<(), Fail> {
     queue.try_insert(10u64, 1u64)?;
     queue.try_insert(20, 2)?;
     let mut sum = 0u64;
-    queue.drain_due(&20, |_at, value| sum = sum.wrapping_add(value));
+    queue.drain_due(&20, |_timer, _at, value| sum = sum.wrapping_add(value));
     // end
     assert_eq!(rt; (sum, queue.is_empty()), (3, true));
     Ok(())
@@ -71,6 +72,20 @@ fn no_timer_and_its_room(rt: HostRuntime) -> Result<(), Fail> {
     queue.clear();
     assert!(rt; queue.is_empty() && !queue.contains(timer));
     assert!(rt; queue.capacity() >= 2);
+    // end
+    Ok(())
+}
+
+#[test]
+fn room_that_no_timer_needs(rt: HostRuntime) -> Result<(), Fail> {
+    let alloc = rt.alloc();
+    // example: TimerQueue::default, TimerQueue::shrink_to_fit
+    let mut queue = TimerQueue::default(alloc);
+    let timer = queue.try_insert(10u64, 'a')?;
+    assert_eq!(rt; queue.cancel(timer), Some((10, 'a')));
+    assert!(rt; queue.capacity() > 0); // the room stays
+    queue.shrink_to_fit();
+    assert_eq!(rt; queue.capacity(), 0);
     // end
     Ok(())
 }

@@ -1,7 +1,8 @@
-//! Callers that see a queue as a list by time: what a call makes of the list is said by a law of it.
-ghost use Rattle.std.specs.Prelude.{◌≡◌, ◌++◌, ◌∷◌, IfOk, IfSome};
+//! Callers of a queue, which is a list by time.
+ghost use Rattle.std.specs.Prelude.{◌≡◌, ◌++◌, ◌∷◌, ℕ, IfOk, IfSome};
 ghost use Rattle.std.specs.Ordering.{nat_cmp};
-ghost use Rattle.fc_timers.specs.InOrder.{due_after, due_by, in_order, times_and_values};
+ghost use Rattle.fc_timers.specs.Timers.{due_after, due_by};
+ghost use Rattle.fc_timers.specs.declared.timer.Timer.{Timer as Key};
 
 use crate::row::Numbers;
 use fc_timers::{Timer, TimerQueue, TryReserveError};
@@ -9,9 +10,9 @@ use std::test::Fail;
 
 /// Puts a timer in: it stands after all that are due by its time, and before all others.
 pub fn put_in(queue: &mut Numbers, at: u64, value: u64) -> Result<Timer, TryReserveError>
-    ensures { IfOk result (λ timer. in_order nat_cmp queue.new ≡ due_by nat_cmp (in_order nat_cmp queue.old) at ++ ((at, queue.old.next_number), (timer, value)) ∷ due_after nat_cmp (in_order nat_cmp queue.old) at) }
+    ensures { IfOk result (λ timer. queue.new.timers ≡ due_by nat_cmp queue.old.timers at ++ ((at, queue.old.next_turn), (timer, value)) ∷ due_after nat_cmp queue.old.timers at) }
 {
-    let _count = queue.len();
+    let _count = queue.len(); // which tells that the list is in order
     match queue.try_insert(at, value) {
         Ok(timer) => Ok(timer),
         Err((_at, _value, error)) => Err(error),
@@ -20,18 +21,17 @@ pub fn put_in(queue: &mut Numbers, at: u64, value: u64) -> Result<Timer, TryRese
 
 /// Takes the first timer out, where it is due: the others are what was after it.
 pub fn take_first(queue: &mut Numbers, now: u64) -> Option<(u64, u64)>
-    ensures { IfSome result (λ pair. times_and_values (in_order nat_cmp queue.old) ≡ pair ∷ times_and_values (in_order nat_cmp queue.new)) }
+    ensures { IfSome result (λ pair. (turn : ℕ) × (timer : Key) × (queue.old.timers ≡ ((pair.0, turn), (timer, pair.1)) ∷ queue.new.timers)) }
 {
-    let _count = queue.len();
-    queue.pop_due(&now)
+    let (_timer, at, value) = queue.pop_due(&now)?;
+    Some((at, value))
 }
 
 /// Takes out all that are due, and leaves those due later.
 pub fn forget_due(queue: &mut Numbers, now: u64)
-    ensures { in_order nat_cmp queue.new ≡ due_after nat_cmp (in_order nat_cmp queue.old) now }
+    ensures { queue.new.timers ≡ due_after nat_cmp queue.old.timers now }
 {
-    let _count = queue.len();
-    queue.drain_due(&now, |_at, _value| ());
+    queue.drain_due(&now, |_timer, _at, _value| ());
 }
 
 #[test]

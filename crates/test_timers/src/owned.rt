@@ -13,7 +13,7 @@ fn is_number(own: &Owned, number: u64) -> bool {
 
 // Has all that are due by then be dropped by a closure that owns a number too.
 fn drain(queue: &mut Boxes, now: u64, own: Owned) {
-    queue.drain_due(&now, move |at, value| {
+    queue.drain_due(&now, move |_timer, at, value| {
         let _is_number = is_number(&own, at) && is_number(&value, at);
     });
 }

@@ -41,14 +41,15 @@ impl Row {
         found
     }
 
-    // Takes the first timer out, where it is due, and answers its time and its place.
-    fn take_first(&mut self, now: u64) -> Option<(u64, u64)> {
+    // Takes the first timer out, where it is due, and answers it with its time and its place.
+    fn take_first(&mut self, now: u64) -> Option<(Timer, u64, u64)> {
         let (place, at) = self.first()?;
         if now < at {
             return None;
         }
+        let timer = self.places[(place % 16) as usize]?.timer;
         self.places[(place % 16) as usize] = None;
-        Some((at, place))
+        Some((timer, at, place))
     }
 
     fn count(&self) -> usize {
@@ -86,8 +87,8 @@ pub fn takes_first(queue: &mut Numbers, row: &mut Row, now: u64) -> bool {
 /// Whether the queue gives all timers that are due as the row has them, one after another, and both agree then.
 pub fn drains(queue: &mut Numbers, row: &mut Row, now: u64) -> bool {
     let mut is_right = true;
-    queue.drain_due(&now, |at, value| {
-        if row.take_first(now) != Some((at, value)) {
+    queue.drain_due(&now, |timer, at, value| {
+        if row.take_first(now) != Some((timer, at, value)) {
             is_right = false;
         }
     });
@@ -121,7 +122,7 @@ fn alter(queue: &mut Numbers, row: &mut Row, i: usize, place: Place, drawn: u64)
         at,
         step: row.steps,
     });
-    queue.reschedule(place.timer, at) == Some(place.at)
+    queue.reschedule(place.timer, at) == Ok(place.at)
 }
 
 /// Makes a change that a number tells, and answers whether queue and row agree then.

@@ -1,7 +1,7 @@
 use Rattle.std.proofs.Common.{◌≡◌, get_or, set, Some, sym, subst, ap, ◌∙◌}
 use Rattle.fc_timers.specs.declared.timer.Armed.{Armed}
 use Rattle.fc_timers.specs.declared.slot.Due.{Due}
-use Rattle.fc_timers.specs.Timers.{renewed}
+use Rattle.fc_timers.specs.Slotted.{renewed}
 use Rattle.fc_timers.specs.Heap.{IsOpen, helds}
 use Rattle.fc_timers.proofs.Changes.{retime_gap}
 use Rattle.fc_timers.proofs.Kept.{there}

@@ -1,7 +1,7 @@
 use Rattle.std.proofs.Common.{◌≡◌, set, get_or, Some, None, refl, sym, ap, ◌∙◌}
 use Rattle.std.proofs.lemmas.List.{map-set, get_or-map}
 use Rattle.std.proofs.Math.Seq.{map-set_same}
-use Rattle.fc_timers.specs.Timers.{renewed}
+use Rattle.fc_timers.specs.Slotted.{renewed}
 use Rattle.fc_timers.specs.Heap.{helds}
 use Rattle.fc_timers.proofs.heap.write_time.Goals as goal
 

@@ -1,9 +1,10 @@
+use Rattle.std.proofs.Common.{◌∙◌}
 use Rattle.std.proofs.lemmas.Cmp.{nat_cmp_total}
 use Rattle.std.specs.Ordering.{nat_cmp}
-use Rattle.fc_timers.proofs.Laws.{in_order_after}
+use Rattle.fc_timers.proofs.Laws.{put_after_its_time}
 use Rattle.test_timers.proofs.listed.put_in.Goals as goal
 
 pub returns-in-Ok : goal.returns-in-Ok
 returns-in-Ok c =
-    in_order_after nat_cmp nat_cmp_total c.args.queue.now c.try_insert.new.self c.in-Ok.timer c.args.at c.args.value c.len-count.ensures.given_out
-    c.in-Ok.ensures.fresh c.in-Ok.ensures.inserted
+    c.in-Ok.ensures.timers
+    ∙ put_after_its_time nat_cmp nat_cmp_total c.args.queue.now c.len-count.ensures.in_order c.args.at (c.in-Ok.timer, c.args.value)

@@ -1,15 +1,16 @@
-use Rattle.std.proofs.Common.{◌≡◌}
+use Rattle.std.proofs.Common.{◌≡◌, length}
 use denote.Param.Always.{always_mut}
-use Rattle.fc_timers.specs.Timers.{GivenTimer, IsDrained, timer_count}
+use Rattle.fc_timers.specs.Timers.{GivenTimer}
+use Rattle.fc_timers.proofs.Drained.{IsDrained}
 use Rattle.fc_timers.proofs.queue.TimerQueue.drain_due.Given as goal
 
 abbrev pub invariant-due : goal.invariant-due
 invariant-due g l = record {
   callable : always_mut g.F.FnMut l.f;
-  drained : IsDrained g.T.Ord.cmp (GivenTimer g.F.FnMut) l.now l.initial.f l.f l.initial.self l.self;
-  number : l.self.next_number ≡ l.initial.self.next_number;
+  drained : IsDrained g.T.Ord.cmp (GivenTimer g.F.FnMut) l.now l.initial.f l.f l.initial.self.timers l.self.timers;
+  turn : l.self.next_turn ≡ l.initial.self.next_turn;
   room : l.self.room ≡ l.initial.self.room;
 }
 
 abbrev pub decreases-due : goal.decreases-due
-decreases-due g l = timer_count l.self
+decreases-due g l = length l.self.timers

@@ -1,10 +1,13 @@
-use Rattle.std.proofs.Common.{sym, ap, ◌∙◌, arith}
-use Rattle.std.specs.Option.{option_copied}
-use Rattle.fc_timers.proofs.Standing.{number_found, number_missed}
+use Rattle.std.proofs.Common.{None, Some}
+use Rattle.fc_timers.proofs.Thin.{told_as}
 use Rattle.fc_timers.proofs.queue.TimerQueue.get.Goals as goal
 
-pub returns-then-armed-timer : goal.returns-then-armed-timer
-returns-then-armed-timer g c = number_found c.args.timer.number _ c.in-Some.armed.now (sym (ap option_copied c.in-Some.is) ∙ c.standing.ensures) (omega arith)
+pub returns-in_err-armed : goal.returns-in_err-armed
+returns-in_err-armed g c =
+    rw (← c.self.view_is, c.from_residual.ensures)
+    (told_as g.T.Ord.cmp g.met.T.Ord.total c.self.inside.slots c.self.invariant c.args.timer None c.in_err-armed.ensures)
 
-pub returns-else-armed-timer : goal.returns-else-armed-timer
-returns-else-armed-timer g c = number_missed c.args.timer.number _ c.in-Some.armed.now (sym (ap option_copied c.in-Some.is) ∙ c.standing.ensures) (omega arith)
+pub returns : goal.returns
+returns g c =
+    rw (← c.self.view_is)
+    (told_as g.T.Ord.cmp g.met.T.Ord.total c.self.inside.slots c.self.invariant c.args.timer (Some c.in_ok-armed.armed.now) c.in_ok-armed.ensures)

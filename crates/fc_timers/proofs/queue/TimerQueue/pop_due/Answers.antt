@@ -1,16 +1,24 @@
-use Rattle.std.proofs.Common.{sym, ap, ◌∙◌}
-use Rattle.std.specs.Ordering.{is_gt}
-use Rattle.fc_timers.proofs.Standing.{not_due_after}
-use Rattle.fc_timers.proofs.Kept.{popped}
+use Rattle.std.proofs.Common.{sym, subst}
+use Rattle.fc_timers.specs.Slotted.{AreGivenOut}
+use Rattle.fc_timers.proofs.Calls.{given_less, in_order_popped, none_due_in_order}
 use Rattle.fc_timers.proofs.queue.TimerQueue.pop_due.Goals as goal
 
-pub returns-then-is_gt-clause-none : goal.returns-then-is_gt-clause-none
-returns-then-is_gt-clause-none g c =
-    let first = c.in_ok-first.ensures.earliest in
-    let late = ap (λ t. is_gt (g.T.Ord.cmp t c.args.now.now)) first.at ∙ ap is_gt (sym c.cmp.ensures) ∙ sym c.is_gt.ensures ∙ c.if-is_gt.true in
-    λ timer a stands. not_due_after g.met.T.Ord.total first.armed a c.args.now.now (first.earliest.first timer a stands) late
+pub invariant_of-self : goal.invariant_of-self
+invariant_of-self g c = subst AreGivenOut (sym c.in_err-timer.ensures.unchanged) c.self.invariant
 
-pub returns-else-is_gt-clause-popped : goal.returns-else-is_gt-clause-popped
-returns-else-is_gt-clause-popped g c =
-    let due = ap is_gt (sym c.cmp.ensures) ∙ sym c.is_gt.ensures ∙ c.if-is_gt.false in
-    popped _ _ _ c.args.now.now c.in_ok-first.ensures.earliest due c.take.ensures.slots _ c.take.ensures.answer
+pub invariant_of-self-2 : goal.invariant_of-self-2
+invariant_of-self-2 g c =
+    given_less c.self.inside.slots c.pop_due.new.self c.in_ok-timer.timer c.self.invariant c.in_ok-timer.ensures.popped.changed c.pop_due.ensures.number
+
+pub returns-in_err-timer-clause-none : goal.returns-in_err-timer-clause-none
+returns-in_err-timer-clause-none g c =
+    rw (← c.self.view_is, c.from_residual.ensures)
+    (none_due_in_order g.T.Ord.cmp g.met.T.Ord.total c.self.inside.slots c.args.now.now c.self.invariant c.in_err-timer.ensures.none)
+
+pub returns-clause-popped : goal.returns-clause-popped
+returns-clause-popped g c =
+    rw (← c.self.view_is) (
+      c.in_ok-timer.armed.turn,
+      in_order_popped g.T.Ord.cmp g.met.T.Ord.total c.self.inside.slots c.pop_due.new.self c.args.now.now c.in_ok-timer.timer
+          c.in_ok-timer.armed c.self.invariant c.in_ok-timer.ensures.popped,
+    )

@@ -1,5 +1,0 @@
-use Rattle.fc_timers.proofs.Vacancies.{vacancy_added}
-use Rattle.fc_timers.proofs.queue.TimerQueue.make_vacancy.Goals as goal
-
-pub returns-else-self-len-clause-vacancy : goal.returns-else-self-len-clause-vacancy
-returns-else-self-len-clause-vacancy g c = vacancy_added c.add_slot.result c.args.self.now c.add_slot.new.self c.add_slot.ensures.slots
