@@ -3,4 +3,5 @@
 
 pub mod cache;
 pub mod index;
+pub mod intervals;
 pub mod timers;

@@ -80,10 +80,10 @@ module _ {K V : Type 0} (cmp : K → K → Ordering) (o : IsTotalOrder cmp) (eq 
     abbrev y : K × Stretch K V
     y = j.first
 
-    second : (k : K) × (at cmp s a ≡ Some (k, j.second))
+    pub second : (k : K) × (at cmp s a ≡ Some (k, j.second))
     second = second_at j.second (at cmp s a) refl j.joint.starts
 
-    whole : j.lead ++ y ∷ (second.0, j.second) ∷ above cmp s a ≡ s
+    pub whole : j.lead ++ y ∷ (second.0, j.second) ∷ above cmp s a ≡ s
     whole =
         sym (append_assoc j.lead (y ∷ []) ((second.0, j.second) ∷ above cmp s a))
         ∙ ap (λ l. l ++ (second.0, j.second) ∷ above cmp s a) (sym j.before)

@@ -73,10 +73,13 @@ module _ {K V : Type 0} (cmp : K → K → Ordering) (o : IsTotalOrder cmp) (s :
       at_front back from = found_before _ (below cmp s b) back
           (not_found _ back (all_map _ _ (λ e h. ap is_eq (over_one cmp o a e.0 (less_le o a b e.0 range h))) back from))
 
+      pub at_parted : at cmp t a ≡ at cmp s a
+      at_parted =
+          ap (λ l. at cmp l a) is ∙ at_front (starting b rest ++ not_below cmp s b) (rest_from cmp o s apart same b rest)
+          ∙ sym (at_front (not_below cmp s b) (start_from cmp o s apart b)) ∙ ap (λ l. at cmp l a) (halves cmp o s apart b)
+
       starts_parted : starts_at cmp t a ≡ starts_at cmp s a
-      starts_parted =
-          ap is_some (ap (λ l. at cmp l a) is ∙ at_front (starting b rest ++ not_below cmp s b) (rest_from cmp o s apart same b rest)
-          ∙ sym (at_front (not_below cmp s b) (start_from cmp o s apart b)) ∙ ap (λ l. at cmp l a) (halves cmp o s apart b))
+      starts_parted = ap is_some at_parted
 
       -- what refuses a stretch that is put before it
       pub refused_before : (e : TryReserveError) → MayRefuseAt cmp t a (length t) e → MayRefuseAt cmp s a (parted_length cmp s b) e

@@ -8,3 +8,7 @@ pub mod Parted
 pub mod Points
 pub mod Walks
 pub mod Written
+mod Put
+mod Copies
+mod FirstGap
+mod JoinedPut

@@ -88,7 +88,7 @@ module _ {X : Type 0} where
   pub found_before : (p : X → Bool) (s t : List X) → find p t ≡ None → find p (s ++ t) ≡ find p s
   found_before p s t h = find-append p s t ∙ ap (option_or (find p s)) h ∙ no_more (find p s)
 
-  last_more : (x y : X) (s : List X) → last_item (x ∷ y ∷ s) ≡ last_item (y ∷ s)
+  pub last_more : (x y : X) (s : List X) → last_item (x ∷ y ∷ s) ≡ last_item (y ∷ s)
   last_more x y s = let n : suc (suc (length s)) - 1 ≡ suc (suc (length s) - 1) = omega arith in ap (slice_get (x ∷ y ∷ s)) n
 
   pub no_last : (s : List X) → last_item s ≡ None → s ≡ []

@@ -155,12 +155,17 @@ module _ {K V : Type 0} (cmp : K → K → Ordering) (o : IsTotalOrder cmp) (s :
       abbrev given : Stretch K V
       given = record { end = b; value = v }
 
+      pub parted_list : (t u : List (K × Stretch K V)) → t ≡ parted
+          → u ≡ outside cmp (Excluded a) (Excluded b) (before cmp (put cmp t a given) a ++ not_below cmp (put cmp t a given) a)
+          → u ≡ before cmp s a ++ (key cmp o t a b range given, given) ∷ back
+      parted_list t u is e =
+          e ∙ put_cleared cmp o t a b range given
+          ∙ ap (λ l. map (ended cmp a) l ++ (key cmp o t a b range given, given) ∷ not_below cmp t b)
+          (ap (λ l. below cmp l a) is ∙ below_parted a (ap is_le range))
+          ∙ ap (λ l. before cmp s a ++ (key cmp o t a b range given, given) ∷ l) (ap (λ l. not_below cmp l b) is ∙ not_below_parted)
+
       pub put_parted : (t u : List (K × Stretch K V)) → t ≡ parted
           → u ≡ outside cmp (Excluded a) (Excluded b) (before cmp (put cmp t a given) a ++ not_below cmp (put cmp t a given) a)
           → AreApart cmp u × IsWritten cmp same a b (Some v) s u
       put_parted t u is e =
-          put_all cmp o s apart a b (ap is_le range) same rest is_rest range v (key cmp o t a b range given) (at_key cmp o a t) u
-          (e ∙ put_cleared cmp o t a b range given
-          ∙ ap (λ l. map (ended cmp a) l ++ (key cmp o t a b range given, given) ∷ not_below cmp t b)
-          (ap (λ l. below cmp l a) is ∙ below_parted a (ap is_le range))
-          ∙ ap (λ l. before cmp s a ++ (key cmp o t a b range given, given) ∷ l) (ap (λ l. not_below cmp l b) is ∙ not_below_parted))
+          put_all cmp o s apart a b (ap is_le range) same rest is_rest range v (key cmp o t a b range given) (at_key cmp o a t) u (parted_list t u is e)

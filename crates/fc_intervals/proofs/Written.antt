@@ -39,7 +39,7 @@ module _ {K V : Type 0} (cmp : K → K → Ordering) (s t : List (K × V)) (k : 
   upper = filter-append _ s t ∙ ap (λ l. l ++ above cmp t k) (left_out _ s (all_map _ _ (λ e h. ap is_gt h) s less))
       ∙ kept _ t (all_map _ _ (λ e h. ap is_gt h) t more)
 
-  none_at : at cmp (s ++ t) k ≡ None
+  pub none_at : at cmp (s ++ t) k ≡ None
   none_at = not_found _ (s ++ t) (all_joined _ s t (all_map _ _ (λ e h. ap is_eq h) s less) (all_map _ _ (λ e h. ap is_eq h) t more))
 
   pub put_between : put cmp (s ++ t) k v ≡ s ++ (k, v) ∷ t
@@ -273,11 +273,21 @@ module _ {K V : Type 0} (cmp : K → K → Ordering) (o : IsTotalOrder cmp) (s :
     free : s ≡ before cmp s a ++ not_below cmp s b
     free = sym (halves b) ∙ ap (λ l. l ++ not_below cmp s b) (sym (nothing_ended cmp o a (below cmp s b) all_by) ∙ ap (map (ended cmp a)) one_front)
 
+    -- none starts where it does
+    pub none_free : (g : Stretch K V) → at cmp s a ≡ None
+    none_free g = ap (λ l. at cmp l a) free
+        ∙ none_at cmp (before cmp s a) (not_below cmp s b) a g (front_less cmp s a)
+        (all_map _ _ (λ e h. over_one cmp o a e.0 (less_le o a b e.0 range h)) (not_below cmp s b) (start_from b))
+
+    pub free_list : (g : Stretch K V) → g.end ≡ b → (u : List (K × Stretch K V)) → u ≡ put cmp s a g
+        → u ≡ before cmp s a ++ (a, record { end = b; value = g.value }) ∷ not_below cmp s b
+    free_list g end u is =
+        is ∙ ap (λ l. put cmp l a g) free ∙ put_given a b (ap is_le range) same None free_after range g
+        ∙ ap (λ e. before cmp s a ++ (a, let x : Stretch K V = record { end = e; value = g.value } in x) ∷ not_below cmp s b) end
+
     pub put_free : (g : Stretch K V) → g.end ≡ b → (u : List (K × Stretch K V)) → u ≡ put cmp s a g → AreApart cmp u × IsWritten cmp same a b (Some g.value) s u
     put_free g end u is =
-        put_all a b (ap is_le range) same None free_after range g.value a (tied_itself o a) u
-        (is ∙ ap (λ l. put cmp l a g) free ∙ put_given a b (ap is_le range) same None free_after range g
-        ∙ ap (λ e. before cmp s a ++ (a, let x : Stretch K V = record { end = e; value = g.value } in x) ∷ not_below cmp s b) end)
+        put_all a b (ap is_le range) same None free_after range g.value a (tied_itself o a) u (free_list g end u is)
 
 -- what an empty range leaves as it is
 pub empty_written : {K V : Type 0} (cmp : K → K → Ordering) (o : IsTotalOrder cmp) (same : V → V → Type 0) (a b : K) (v : Option V)

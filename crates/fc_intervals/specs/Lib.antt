@@ -3,3 +3,8 @@ pub mod Taken
 pub mod Steps
 pub mod Joined
 pub mod Refusals
+pub mod Put
+pub mod Compare
+pub mod Copies
+pub mod FirstGap
+pub mod JoinedPut

@@ -2,6 +2,7 @@
 #![tactic(auto)]
 
 mod debug;
+mod first_gap;
 pub mod gaps;
 mod joins;
 pub mod map;

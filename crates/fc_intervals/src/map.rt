@@ -4,7 +4,8 @@ ghost use Rattle.std.specs.Ordering.{is_lt, is_le};
 ghost use Rattle.std.specs.declared.cmp.Ordering.TheVariants.{Less};
 ghost use Rattle.fc_map.specs.Entries.{now_value};
 ghost use Rattle.fc_intervals.specs.Joined.{IsJoined, NoneJoint};
-ghost use Rattle.fc_intervals.specs.Refusals.{MayRefusePut, MayRefuseRest, parted_length, put_length};
+ghost use Rattle.fc_intervals.specs.Put.{IsPut};
+ghost use Rattle.fc_intervals.specs.Refusals.{goes_across, MayRefusePut, MayRefuseRest, parted_length, put_length, starts_at};
 ghost use Rattle.fc_intervals.specs.Steps.{IsCut};
 ghost use Rattle.fc_intervals.specs.Taken.{IsTaken, stretch_of};
 ghost use Rattle.fc_intervals.specs.Stretches.{AreApart, AreGaps, IsKept, IsLookUp, IsWritten, now_stretch, overlapping, stretch_at, value_at_point};
@@ -17,6 +18,9 @@ use fc_map::map::{self, BTreeMap, Iter};
 use std::alloc::Global;
 use std::marker::Model;
 use std::ops::Range;
+
+mod joined;
+mod whole;
 
 /// A map from points to values by half-open stretches: each holds its start and the points after it up to its end, and not its end.
 /// No stretch is empty, and no two overlap. Only calls that answer a `Result` take memory.
@@ -46,6 +50,13 @@ impl<K: Ord, V, A: Handle> IntervalMap<K, V, A> {
         IntervalMap {
             map: BTreeMap::new(alloc),
         }
+    }
+
+    /// A map of no stretch, as `new` makes it.
+    pub fn default(alloc: A) -> IntervalMap<K, V, A>
+        ensures { result ≡ [] }
+    {
+        IntervalMap::new(alloc)
     }
 
     /// The number of stretches.
@@ -225,12 +236,14 @@ impl<K: Ord + Copy + Drop, V: TryClone, A: Handle> IntervalMap<K, V, A> {
     /// `AllocError`, where memory for a node was refused. The map is then as it was, and the value comes back.
     pub fn put(&mut self, range: Range<K>, value: V) -> Result<(), (V, TryReserveError)>
         requires { V.can_clone }
+        ensures put { is_lt (K.cmp range.start range.end) ≡ true → OnOk result (IsPut K.cmp V.same range.start range.end value self.old self.new) }
         ensures written { OnOk result (IsWritten K.cmp V.same range.start range.end (Some value) self.old self.new) }
         ensures empty { is_lt (K.cmp range.start range.end) ≡ false → IsOk result × (self.new ≡ self.old) }
         ensures unchanged { OnErr result (self.new ≡ self.old) }
         ensures back { IfErr result (λ e. e.0 ≡ value) }
         ensures error { IfErr result (λ e. MayRefusePut K.cmp V.may_refuse self.old range.start range.end e.1) }
         ensures full { is_lt (K.cmp range.start range.end) ≡ true → usize.MAX < put_length K.cmp self.old range.start range.end → IsErr result }
+        ensures sure { starts_at K.cmp self.old range.start ≡ true → goes_across K.cmp self.old range.end ≡ false → IsOk result }
     {
         if range.start.cmp(&range.end).is_lt() {
             self.put_over(range.start, range.end, value)
@@ -243,6 +256,7 @@ impl<K: Ord + Copy + Drop, V: TryClone, A: Handle> IntervalMap<K, V, A> {
     fn put_over(&mut self, start: K, end: K, value: V) -> Result<(), (V, TryReserveError)>
         requires can { V.can_clone }
         requires range { K.cmp start end ≡ Less }
+        ensures put { OnOk result (IsPut K.cmp V.same start end value self.old self.new) }
         ensures written { OnOk result (IsWritten K.cmp V.same start end (Some value) self.old self.new) }
         ensures unchanged { OnErr result (self.new ≡ self.old) }
         ensures back { IfErr result (λ e. e.0 ≡ value) }
@@ -261,11 +275,13 @@ impl<K: Ord + Copy + Drop, V: TryClone, A: Handle> IntervalMap<K, V, A> {
     /// `usize::MAX` stretches, and then always; or by `AllocError`, where memory for a node was refused. The map is then as it was.
     pub fn cut(&mut self, range: Range<K>) -> Result<(), TryReserveError>
         requires { V.can_clone }
+        ensures cut { is_lt (K.cmp range.start range.end) ≡ true → OnOk result (IsCut K.cmp V.same range.start range.end self.old self.new) }
         ensures written { OnOk result (IsWritten K.cmp V.same range.start range.end None self.old self.new) }
         ensures empty { is_lt (K.cmp range.start range.end) ≡ false → IsOk result × (self.new ≡ self.old) }
         ensures unchanged { OnErr result (self.new ≡ self.old) }
         ensures error { IfErr result (MayRefuseRest K.cmp V.may_refuse self.old range.end) }
         ensures full { is_lt (K.cmp range.start range.end) ≡ true → usize.MAX < parted_length K.cmp self.old range.end → IsErr result }
+        ensures sure { goes_across K.cmp self.old range.end ≡ false → IsOk result }
     {
         if range.start.cmp(&range.end).is_lt() {
             self.cut_over(range.start, range.end)
@@ -287,6 +303,7 @@ impl<K: Ord + Copy + Drop, V: TryClone, A: Handle> IntervalMap<K, V, A> {
         ensures unchanged { OnErr result (self.new ≡ self.old) }
         ensures error { IfErr result (MayRefuseRest K.cmp V.may_refuse self.old at) }
         ensures full { usize.MAX < parted_length K.cmp self.old at → IsErr result }
+        ensures sure { goes_across K.cmp self.old at ≡ false → IsOk result }
     {
         self.cut_over(at, at)
     }

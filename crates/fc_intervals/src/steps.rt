@@ -10,6 +10,7 @@ ghost use Rattle.fc_base.specs.Ranges.{within};
 ghost use Rattle.fc_map.specs.Entries.{entries, now_pair};
 ghost use Rattle.fc_map.specs.Ranged.{outside};
 ghost use Rattle.fc_laws.specs.Words.{last_item};
+ghost use Rattle.fc_intervals.specs.Put.{IsPut};
 ghost use Rattle.fc_intervals.specs.Refusals.{MayRefuseAt, MayRefusePut, MayRefuseRest, parted_length, put_length, starts_at};
 ghost use Rattle.fc_intervals.specs.Stretches.{AreApart, IsLookUp, IsWritten, overlapping, stretch_at};
 ghost use Rattle.fc_intervals.specs.Steps.{before, EndsBy, IsCut, IsParted, IsRest};
@@ -182,6 +183,7 @@ fn put_across<K: Ord + Copy + Drop, V: TryClone, A: Handle>(
     requires apart { AreApart K.cmp (entries map.old) }
     requires range { K.cmp from stretch.end ≡ Less }
     ensures apart { OnOk result (AreApart K.cmp (entries map.new)) }
+    ensures put { OnOk result (IsPut K.cmp V.same from stretch.end stretch.value (entries map.old) (entries map.new)) }
     ensures written { OnOk result (IsWritten K.cmp V.same from stretch.end (Some stretch.value) (entries map.old) (entries map.new)) }
     ensures unchanged { OnErr result (entries map.new ≡ entries map.old) }
     ensures back { IfErr result (λ e. e.0 ≡ stretch.value) }
@@ -204,6 +206,7 @@ pub(crate) fn put<K: Ord + Copy + Drop, V: TryClone, A: Handle>(
     requires apart { AreApart K.cmp (entries map.old) }
     requires range { K.cmp from stretch.end ≡ Less }
     ensures apart { OnOk result (AreApart K.cmp (entries map.new)) }
+    ensures put { OnOk result (IsPut K.cmp V.same from stretch.end stretch.value (entries map.old) (entries map.new)) }
     ensures written { OnOk result (IsWritten K.cmp V.same from stretch.end (Some stretch.value) (entries map.old) (entries map.new)) }
     ensures unchanged { OnErr result (entries map.new ≡ entries map.old) }
     ensures back { IfErr result (λ e. e.0 ≡ stretch.value) }

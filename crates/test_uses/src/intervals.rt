@@ -1,5 +1,6 @@
 //! Values of points by stretches, beside a plain row of the points, and with each request for memory refused in turn.
 mod examples;
+mod first_gap;
 mod joins;
 mod numbers;
 mod owned;
@@ -7,3 +8,4 @@ mod refusals;
 mod row;
 mod taken;
 mod walks;
+mod whole;

@@ -1,4 +1,5 @@
 //! Examples of the map of intervals, as the pages show them.
+use fc_base::TryClone;
 use fc_budget::Budget;
 use fc_intervals::IntervalMap;
 use std::alloc::Global;
@@ -73,6 +74,33 @@ fn walks(rt: HostRuntime) -> Result<(), Fail> {
     assert!(rt; overlapping.any(|(start, _stretch)| *start == 10));
     let mut gaps = map.gaps(0..40);
     assert_eq!(rt; (gaps.next(), gaps.next()), (Some(0..10), Some(20..30)));
+    // end
+    Ok(())
+}
+
+#[test]
+fn puts_that_join(rt: HostRuntime) -> Result<(), Fail> {
+    let alloc = rt.alloc();
+    // example: IntervalMap::put_joined
+    let mut map = IntervalMap::new(alloc);
+    map.put_joined(10u64..20, 'a')?;
+    map.put_joined(30..40, 'a')?;
+    map.put_joined(20..30, 'a')?;
+    assert_eq!(rt; (map.len(), map.first()), (1, Some((10..40, &'a'))));
+    // end
+    Ok(())
+}
+
+#[test]
+fn whole_maps(rt: HostRuntime) -> Result<(), Fail> {
+    let alloc = rt.alloc();
+    // example: IntervalMap::default, IntervalMap::first_gap
+    let mut map = IntervalMap::default(alloc);
+    map.put(10u64..20, 'a')?;
+    map.put(24..40, 'b')?;
+    assert_eq!(rt; map.first_gap(15..50, 5), Some(40));
+    let copy = map.try_clone()?;
+    assert!(rt; copy == map && copy.into_iter().len() == 2);
     // end
     Ok(())
 }

@@ -1,5 +1,5 @@
 //! Stretches that touch, cut apart and joined, beside a plain row that has the value of each point.
-use super::row::{Numbers, Row, change, has_row, next};
+use super::row::{Numbers, Row, change, has_row, next, write};
 use fc_base::TryReserveError;
 use fc_intervals::IntervalMap;
 use std::alloc::Global;
@@ -59,5 +59,46 @@ fn a_stretch_is_one_with_its_neighbours(rt: HostRuntime) -> Result<(), Fail> {
     assert!(rt;
         map.put(30..40, 9).is_ok() && !map.join_at(30) && !map.join_at(40) && map.len() == 2
     );
+    Ok(())
+}
+
+// Whether two stretches touch and hold equal values.
+fn has_joint(map: &Numbers) -> bool {
+    let mut end = u64::MAX;
+    let mut value = 0u64;
+    for (start, stretch) in map.iter() {
+        if *start == end && stretch.value == value {
+            return true;
+        }
+        end = stretch.end;
+        value = stretch.value;
+    }
+    false
+}
+
+// Whether the map has what the row has, in as few stretches as can be, after each of so many puts of one of two values.
+fn puts_joined(alloc: Global, seed: u64, puts: usize) -> Result<bool, TryReserveError> {
+    let mut map = IntervalMap::new(alloc);
+    let mut row = [0; 24];
+    let mut drawn = seed;
+    for _ in 0..puts {
+        drawn = next(drawn);
+        let start = (drawn >> 33) % 24;
+        let end = start.wrapping_add((drawn >> 40) % 8);
+        let value = (drawn >> 52 & 1).wrapping_add(1);
+        map.put_joined(start..end, value)?;
+        write(&mut row, start, end, value);
+        if !has_row(&map, &row) || has_joint(&map) {
+            return Ok(false);
+        }
+    }
+    Ok(true)
+}
+
+#[test]
+fn a_stretch_is_put_and_joined(rt: HostRuntime) -> Result<(), Fail> {
+    for seed in 0..20u64 {
+        assert!(rt; puts_joined(rt.alloc(), seed, 40)?);
+    }
     Ok(())
 }

@@ -85,3 +85,21 @@ fn what_is_taken_out_or_cleared_is_given_up(rt: HostRuntime) {
     let are_let_go = are_let_go(&mut map, rt.alloc()).unwrap_or(true);
     assert!(rt; are_let_go);
 }
+
+// A value between two that are equal to it: one of the three is left.
+fn puts_between(map: &mut Boxes, alloc: Global) -> Result<bool, TryReserveError> {
+    put(map, alloc, 0..10, 1)?;
+    put(map, alloc, 20..30, 1)?;
+    let value = Owned::try_new(alloc, 1)?;
+    if map.put_joined(10..20, value).is_err() {
+        return Ok(map.len() == 2 && !map.contains(10));
+    }
+    Ok(map.len() == 1 && map.first().map(|found| found.0) == Some(0..30))
+}
+
+#[test]
+fn what_is_put_and_joined_is_given_up(rt: HostRuntime) {
+    let mut map: Boxes = IntervalMap::new(rt.alloc());
+    let is_right = puts_between(&mut map, rt.alloc()).unwrap_or(true);
+    assert!(rt; is_right);
+}

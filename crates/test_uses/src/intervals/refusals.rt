@@ -138,3 +138,17 @@ fn a_refused_cut_in_two_leaves_the_map(rt: HostRuntime) -> Result<(), Fail> {
     assert!(rt; map.len() == 2);
     Ok(())
 }
+
+// A stretch that starts where another does takes its place, and asks for no memory where none goes on across its end.
+#[test]
+fn a_put_that_needs_no_memory_is_not_refused(rt: HostRuntime) {
+    let mut map: Boxes = IntervalMap::new(rt.alloc());
+    if !fill(&mut map, rt.alloc()) {
+        return;
+    }
+    let Ok(value) = Owned::try_new(rt.alloc(), 50) else {
+        return;
+    };
+    assert!(rt; map.put(20..70, value).is_ok() && map.len() == 12);
+    assert!(rt; number_at(&map, 20) == 50 && number_at(&map, 69) == 50 && number_at(&map, 80) == 4);
+}

@@ -2,6 +2,7 @@ use Rattle.std.proofs.Common.{None, refl, sym, inr}
 use Rattle.std.proofs.lemmas.Result.{on_ok_weaker, IfErr-weaker}
 use Rattle.fc_map.specs.Entries.{entries}
 use Rattle.fc_intervals.proofs.Lengths.{full_before, refused_before}
+use Rattle.fc_intervals.proofs.Put.{free_put}
 use Rattle.fc_intervals.proofs.Written.{free_after, halves, put_free}
 use Rattle.fc_intervals.proofs.steps.put.Goals as goal
 
@@ -32,3 +33,8 @@ returns-then-is_free-clause-full g c =
     (c.is_free.ensures c.if-is_free.true) in
     full_before g.K.Ord.cmp g.met.K.Ord.total s c.requires.apart g.V.TryClone.same b None none s
     (sym (halves g.K.Ord.cmp g.met.K.Ord.total s c.requires.apart b)) c.args.from c.requires.range _ c.put_in.ensures.full
+
+pub returns-then-is_free-clause-put : goal.returns-then-is_free-clause-put
+returns-then-is_free-clause-put g c = on_ok_weaker c.put_in.result (λ e.
+    free_put g.K.Ord.cmp g.met.K.Ord.total (entries c.args.map.now) c.requires.apart g.V.TryClone.same c.args.from c.args.stretch.end c.requires.range
+    (c.is_free.ensures c.if-is_free.true) c.args.stretch refl (entries c.put_in.new.map) e) c.put_in.ensures.put

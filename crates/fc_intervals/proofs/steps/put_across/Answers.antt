@@ -4,6 +4,7 @@ use Rattle.std.proofs.lemmas.Result.{on_ok_weaker, IfErr-weaker}
 use Rattle.fc_map.specs.Entries.{entries}
 use Rattle.fc_intervals.proofs.Lengths.{full_before, refused_before}
 use Rattle.fc_intervals.proofs.Parted.{front_parted, put_parted}
+use Rattle.fc_intervals.proofs.Put.{across_put}
 use Rattle.fc_intervals.proofs.steps.put_across.Goals as goal
 
 pub put_parted-requires : goal.put_parted-requires
@@ -43,3 +44,11 @@ returns-in-Ok-clause-full g c =
 
 pub returns-in-Err-clause-error : goal.returns-in-Err-clause-error
 returns-in-Err-clause-error g c = inl c.in-Err.ensures.error
+
+pub returns-in-Ok-clause-put : goal.returns-in-Ok-clause-put
+returns-in-Ok-clause-put g c =
+    let parted = c.in-Ok.ensures.parted in
+    on_ok_weaker c.put_parted.result (λ e.
+    across_put g.K.Ord.cmp g.met.K.Ord.total (entries c.args.map.now) c.requires.apart g.V.TryClone.same c.args.from c.args.stretch.end c.requires.range
+    parted.rest parted.is_rest c.args.stretch.value (entries c.part.new.map) (entries c.put_parted.new.map) parted.is e)
+    c.put_parted.ensures.put

@@ -1,6 +1,7 @@
 use Rattle.std.proofs.Common.{◌≡◌, ◌∙◌, Some, true, false, sym, ap}
 use Rattle.std.specs.Ordering.{is_lt}
 use Rattle.fc_intervals.proofs.Order.{is_less}
+use Rattle.fc_intervals.proofs.Put.{sure_put}
 use Rattle.fc_intervals.proofs.Written.{empty_written}
 use Rattle.fc_intervals.proofs.map.IntervalMap.put.Goals as goal
 
@@ -17,3 +18,7 @@ pub returns-else-is_lt-clause-written : goal.returns-else-is_lt-clause-written
 returns-else-is_lt-clause-written g c =
     empty_written g.K.Ord.cmp g.met.K.Ord.total g.V.TryClone.same c.args.range.start c.args.range.end (Some c.args.value) c.args.self.now
     (ap is_lt (sym c.cmp.ensures) ∙ sym c.is_lt.ensures ∙ c.if-is_lt.false)
+
+pub returns-then-is_lt-clause-sure : goal.returns-then-is_lt-clause-sure
+returns-then-is_lt-clause-sure g c =
+    sure_put g.K.Ord.cmp g.V.TryClone.may_refuse c.args.self.now c.args.range.end c.args.range.start c.put_over.result c.put_over.ensures.error
