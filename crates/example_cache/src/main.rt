@@ -37,8 +37,8 @@ fn answer<W: Write>(cache: &mut Cache<u64, u64>, text: &str, out: &mut W) -> io:
     match (word, entry(rest), number(rest)) {
         ("put", Some((key, value, cost)), _) => match cache.try_put(key, value, cost as usize) {
             Ok(()) => writeln!(out, "put"),
-            Err((PutError::OverBudget, _, _)) => writeln!(out, "too large"),
-            Err((PutError::Refused(_), _, _)) => writeln!(out, "out of memory"),
+            Err((_, _, PutError::OverBudget)) => writeln!(out, "too large"),
+            Err((_, _, PutError::Refused(_))) => writeln!(out, "out of memory"),
         },
         ("get", _, Some(key)) => write_value("", cache.get(&key).copied(), out),
         ("peek", _, Some(key)) => write_value("", cache.peek(&key).copied(), out),

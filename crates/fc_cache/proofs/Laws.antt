@@ -1,26 +1,17 @@
 -- The laws of what stands in a cache, for its callers.
 use Rattle.std.proofs.Common.{◌≡◌, ◌-◌, Bool, true, false, cond, List, [], ◌∷◌, Option, None, Some, option_map, refl, sym, ap, ◌∙◌}
 use Rattle.std.specs.Cmp.{IsEquivalence}
-use Rattle.std.specs.List.{IsDistinct}
-use Rattle.std.specs.Map.{keys_of, lookup, lookup_entry, remove_entry}
+use Rattle.std.specs.Map.{lookup, lookup_entry, remove_entry}
 use Rattle.std.specs.Option.{option_map_or, option_to_list}
 use Rattle.lru.proofs.CallerLemmas.{Contains-lookup_entry}
 use Rattle.lru.proofs.Pairs.{lookup-lookup_entry}
 use Rattle.fc_cache.specs.declared.held.Held.{Held}
 use Rattle.fc_cache.specs.Entries.{Cached, IsCached, key_at, rest_within, used_last, with_entry}
+use Rattle.fc_cache.specs.Written.{with_value}
 use Rattle.fc_cache.proofs.Costs.{held_of, rest_missed}
-use Rattle.fc_cache.proofs.Reversed.{found_on, none_beside}
+use Rattle.fc_cache.proofs.Reversed.{found_on, none_left}
 
 module _ {K V : Type 0} {eq : K → K → Bool} where
-  module _ (test : K → Bool) (one : (x y : K) → test x ≡ true → test y ≡ eq x y) where
-    none_left : (es : List (K × Held V)) → IsDistinct eq (keys_of es) → lookup_entry test (remove_entry test es) ≡ None
-    unfolding IsDistinct
-    none_left [] d = refl
-    none_left (e ∷ es) d = (elim (test e.0) as (λ b. test e.0 ≡ b → lookup_entry test (cond b es (e ∷ remove_entry test es)) ≡ None) [
-      | true ↦ λ t. none_beside test one e.0 es t d.0
-      | false ↦ λ t. ap (λ b. cond b (Some e) (lookup_entry test (remove_entry test es))) t ∙ none_left es d.1
-    ]) refl
-
   module _ (test : K → Bool) (one : (x y : K) → test x ≡ true → test y ≡ eq x y) (c : Cached K V) (cached : IsCached eq c) where
     found_again : (o : Option (K × Held V)) → lookup_entry test c.entries ≡ o → lookup_entry test (option_to_list o) ≡ o
     found_again None none = refl
@@ -49,3 +40,21 @@ module _ {K V : Type 0} {eq : K → K → Bool} where
         sym (lookup-lookup_entry (eq k) (with_entry eq c k h).entries)
         ∙ ap (option_map held_of) (found_on (eq k) (rest_within (c.budget - h.cost) others) (here ∷ []) none
         ∙ ap (λ b. cond b (Some here) None) (same_key (lookup_entry (eq k) c.entries) refl))
+
+-- Where a value is written at a key, and `old` was there, it is found there then; at a key that is missed nothing is.
+pub found_written : {K V : Type 0} (test : K → Bool) (w : V) (es : List (K × Held V)) (old : Option V) → old ≡ option_map (λ h. h.value) (lookup test es)
+    → option_map (λ h. h.value) (lookup test (with_value test es w)) ≡ option_map (λ _. w) old
+found_written {K} {V} test w es old is = found es ∙ ap (option_map (λ _. w)) (sym is)
+  where
+    value : Held V → V
+    value h = h.value
+
+    found : (es : List (K × Held V)) → option_map value (lookup test (with_value test es w)) ≡ option_map (λ _. w) (option_map value (lookup test es))
+    found [] = refl
+    found (e ∷ es) =
+        let here : K × Held V = (e.0, record { value = w; cost = e.1.cost }) in
+        (elim (test e.0) as (λ b. test e.0 ≡ b → option_map value (lookup test (cond b (here ∷ es) (e ∷ with_value test es w)))
+        ≡ option_map (λ _. w) (option_map value (cond b (Some e.1) (lookup test es)))) [
+          | true ↦ λ t. ap (λ b. option_map value (cond b (Some here.1) (lookup test es))) t
+          | false ↦ λ t. ap (λ b. option_map value (cond b (Some e.1) (lookup test (with_value test es w)))) t ∙ found es
+        ]) refl

@@ -58,6 +58,15 @@ module _ {K X : Type 0} (test : K → Bool) where
     none_beside x [] t all = refl
     none_beside x (e ∷ es) t all = ap (λ b. cond b (Some e) (lookup_entry test es)) (one x e.0 t ∙ all.0) ∙ none_beside x es t all.1
 
+    -- Once the entry whose key passes is taken out, none is left.
+    pub none_left : (es : List (K × X)) → IsDistinct eq (keys_of es) → lookup_entry test (remove_entry test es) ≡ None
+    unfolding IsDistinct
+    none_left [] d = refl
+    none_left (e ∷ es) d = (elim (test e.0) as (λ b. test e.0 ≡ b → lookup_entry test (cond b es (e ∷ remove_entry test es)) ≡ None) [
+      | true ↦ λ t. none_beside e.0 es t d.0
+      | false ↦ λ t. ap (λ b. cond b (Some e) (lookup_entry test (remove_entry test es))) t ∙ none_left es d.1
+    ]) refl
+
     pub reversed : (es : List (K × X)) → IsDistinct eq (keys_of es) → Reversed es
     unfolding IsDistinct
     reversed [] d = record { entry = refl; left = refl }

@@ -6,18 +6,24 @@ ghost use Rattle.std.specs.Map.Iter.{deref_pair};
 ghost use Rattle.std.specs.Option.{option_copied, option_map_or};
 ghost use Rattle.fc_cache.specs.Handed.{GivenEntry, HandsInTurn};
 
+mod copy;
+mod debug;
+mod iter;
+mod lend;
+
 use crate::held::Held;
 use crate::put_error::PutError;
 use crate::recency::Recency;
 use fc_base::{Handle, TryReserveError};
+pub use iter::Iter;
 use std::alloc::Global;
 use std::collections::hash_map::Equivalent;
 use std::hash::Hash;
 use std::marker::Model;
 
 /// A map from keys to values within a budget, each of whose entries costs what its caller says: 1 where entries are counted, or their
-/// bytes. An entry that is put in evicts those that were used least lately, as many as its cost needs. Only `try_put` and
-/// `try_put_with` take memory.
+/// bytes. An entry that is put in evicts those that were used least lately, as many as its cost needs. Only `try_put`,
+/// `try_put_with` and `try_clone` take memory.
 ///
 /// Keys are found by their hashes, by std's fixed hasher: whoever chooses the keys can choose many of one hash, and each call then looks
 /// at all of them.
@@ -136,12 +142,12 @@ impl<K: Eq + Hash + Drop, V: Drop, A: Handle> Cache<K, V, A> {
     /// `OverBudget` exactly where the cost is above the whole budget, and `Refused` where the key is new and room for the entry was refused:
     /// a block for itself, what the map of the keys grows by, and for the first entry two blocks more. The cache is then as it was, and key
     /// and value come back.
-    pub fn try_put(&mut self, key: K, value: V, cost: usize) -> Result<(), (PutError, K, V)>
+    pub fn try_put(&mut self, key: K, value: V, cost: usize) -> Result<(), (K, V, PutError)>
         ensures put { OnOk result (self.new ≡ with_entry K.eq self.old key (record { value = value; cost = cost })) }
         ensures fits { OnOk result (cost ≤ self.old.budget) }
         ensures succeeds { cost ≤ self.old.budget → IsSome (lookup (K.eq key) self.old.entries) → IsOk result }
-        ensures error { IfErr result (λ e. IsRefusal self.old.budget cost (length self.old.entries) e.0) }
-        ensures back { IfErr result (λ e. (e.1 ≡ key) × (e.2 ≡ value)) }
+        ensures error { IfErr result (λ e. IsRefusal self.old.budget cost (length self.old.entries) e.2) }
+        ensures back { IfErr result (λ e. (e.0 ≡ key) × (e.1 ≡ value)) }
         ensures unchanged { OnErr result (self.new ≡ self.old) }
     {
         self.try_put_with(key, value, cost, |_key, _value| ())
@@ -158,18 +164,18 @@ impl<K: Eq + Hash + Drop, V: Drop, A: Handle> Cache<K, V, A> {
         value: V,
         cost: usize,
         mut f: F,
-    ) -> Result<(), (PutError, K, V)>
+    ) -> Result<(), (K, V, PutError)>
         requires callable { F.IsAlwaysCallable f }
         ensures put { OnOk result (self.new ≡ with_entry K.eq self.old key (record { value = value; cost = cost })) }
         ensures handed { OnOk result ((last : F) × HandsInTurn (GivenEntry F.FnMut) f (handed_out K.eq self.old key cost) last) }
         ensures fits { OnOk result (cost ≤ self.old.budget) }
         ensures succeeds { cost ≤ self.old.budget → IsSome (lookup (K.eq key) self.old.entries) → IsOk result }
-        ensures error { IfErr result (λ e. IsRefusal self.old.budget cost (length self.old.entries) e.0) }
-        ensures back { IfErr result (λ e. (e.1 ≡ key) × (e.2 ≡ value)) }
+        ensures error { IfErr result (λ e. IsRefusal self.old.budget cost (length self.old.entries) e.2) }
+        ensures back { IfErr result (λ e. (e.0 ≡ key) × (e.1 ≡ value)) }
         ensures unchanged { OnErr result (self.new ≡ self.old) }
     {
         if self.budget < cost {
-            return Err((PutError::OverBudget, key, value));
+            return Err((key, value, PutError::OverBudget));
         }
         match self.recency.push(key, Held { value, cost }) {
             Ok(replaced) => {
@@ -182,7 +188,7 @@ impl<K: Eq + Hash + Drop, V: Drop, A: Handle> Cache<K, V, A> {
                 // One entry more never passes the greatest length, so only the room was refused.
                 let _len = self.recency.len();
                 let refused = PutError::Refused(TryReserveError::AllocError);
-                Err((refused, key, held.value))
+                Err((key, held.value, refused))
             }
         }
     }

@@ -1,10 +1,12 @@
 //! Entries in the order of their last use, in the toolchain's `LruCache`, which is made for the first of them.
-ghost use Rattle.std.specs.Prelude.{◌≡◌, ◌^◌, ◌<◌, [], ◌∷◌, ◌++◌, length, None, IsSome, IsOk, IfOk, OnErr, OnOk, IfErr, MatchOption, slice_get, option_map};
+ghost use Rattle.std.specs.Prelude.{◌≡◌, ◌^◌, ◌<◌, [], ◌∷◌, ◌++◌, length, None, IsSome, IsOk, IfOk, OnErr, OnOk, IfErr, MatchOption, reverse, slice_get, option_map};
 ghost use Rattle.std.specs.Borrow.{sem};
 ghost use Rattle.std.specs.List.{IsDistinct};
 ghost use Rattle.std.specs.Map.{keys_of, lookup, lookup_entry, remove_entry};
 ghost use Rattle.std.specs.Map.Iter.{deref_pair};
-ghost use Rattle.std.specs.Option.{option_copied};
+ghost use Rattle.std.specs.Option.{option_copied, option_copied_mut, option_map_or};
+
+mod copy;
 
 use crate::held::Held;
 use fc_base::Handle;
@@ -34,6 +36,7 @@ impl<K: Eq + Hash, V, A: Handle> Model for Recency<K, V, A> {
 impl<K: Eq + Hash, V, A: Handle> Recency<K, V, A> {
     ghost use Rattle.fc_cache.specs.Entries.{used_last};
     ghost use Rattle.fc_cache.specs.RecentLends.{ends_recent_in};
+    ghost use Rattle.fc_cache.specs.Written.{lends_recent_in};
 
     /// No entries, which take no memory.
     pub(crate) fn new(alloc: A) -> Recency<K, V, A>
@@ -80,6 +83,36 @@ impl<K: Eq + Hash, V, A: Handle> Recency<K, V, A> {
     {
         let ring = self.ring.as_ref()?;
         ring.peek_lru()
+    }
+
+    /// The value at a key, for writing, which is then the most lately used; it costs what it did.
+    pub(crate) fn get_mut<Q: Equivalent<K>>(&mut self, key: Q) -> Option<&mut V>
+        ensures* writes_back { sem 𝓛 (lends_recent_in K.row V.row A.row K.Hash A.Allocator self.entry (Q.equivalent key) (used_last (Q.equivalent key) self.old.entries) result) }
+        ensures value { option_copied_mut result ≡ option_map (λ h. h.value) (lookup (Q.equivalent key) self.old.entries) }
+    {
+        let ring = self.ring.as_mut()?;
+        let _known = ring.len();
+        let held = ring.get_mut(key)?;
+        Some(&mut held.value)
+    }
+
+    /// The value at a key, for writing; it costs what it did.
+    pub(crate) fn peek_mut<Q: Equivalent<K>>(&mut self, key: Q) -> Option<&mut V>
+        ensures* writes_back { sem 𝓛 (lends_recent_in K.row V.row A.row K.Hash A.Allocator self.entry (Q.equivalent key) self.old.entries result) }
+        ensures value { option_copied_mut result ≡ option_map (λ h. h.value) (lookup (Q.equivalent key) self.old.entries) }
+    {
+        let ring = self.ring.as_mut()?;
+        let _known = ring.len();
+        let held = ring.peek_mut(key)?;
+        Some(&mut held.value)
+    }
+
+    /// A walk over the entries, from the most to the least lately used. `None` where there is no ring.
+    pub(crate) fn iter(&self) -> Option<lru::Iter<'_, K, Held<V>>>
+        ensures { option_map_or reverse result [] ≡ self.now.entries }
+    {
+        let ring = self.ring.as_ref()?;
+        Some(ring.iter())
     }
 
     /// Takes the entry at a key out.

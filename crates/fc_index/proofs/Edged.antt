@@ -67,7 +67,7 @@ module _ {K : Type 0} (cmp : K → K → Ordering) (total : IsTotalOrder cmp) (x
   stops_equal Unbounded = refl
 
   -- Equal keys lie within the same bounds.
-  lies_equal : (lo hi : Bound K) → lies cmp lo hi x ≡ lies cmp lo hi y
+  pub lies_equal : (lo hi : Bound K) → lies cmp lo hi x ≡ lies cmp lo hi y
   lies_equal lo hi = ap (λ b. b && stops cmp hi x) (starts_equal lo) ∙ ap (λ b. starts cmp lo y && b) (stops_equal hi)
 
 -- the key parts of items that are equal are

@@ -28,7 +28,7 @@ is_new None e = refl
 is_new (Some x) e = absurd cc
 
 -- two answers are equal together where both are
-both_equal : (o p : Ordering) → is_eq (ordering_then o p) ≡ (is_eq o && is_eq p)
+pub both_equal : (o p : Ordering) → is_eq (ordering_then o p) ≡ (is_eq o && is_eq p)
 both_equal Less p = refl
 both_equal Equal p = refl
 both_equal Greater p = refl

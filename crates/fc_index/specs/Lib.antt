@@ -1,2 +1,4 @@
+pub mod ByKey
 pub mod Edges
+pub mod Equal
 pub mod Rows

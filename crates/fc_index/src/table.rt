@@ -7,12 +7,18 @@ ghost use Rattle.fc_base.specs.Parts.{at, value_at};
 ghost use Rattle.fc_map.specs.Entries.{now_value};
 ghost use Rattle.fc_index.specs.Rows.{AreByKey, IsValueSet, has_both, lies};
 
+mod removals;
+mod rows_by;
+mod whole;
+mod with_key;
+
 use crate::edge::items_between;
 use crate::keyed::Keyed;
 use crate::steps::{first_of, put_keys, second_of, take_back, take_out_old};
 use fc_base::{Handle, TryReserveError};
 use fc_map::map::{BTreeMap, Iter};
 use fc_set::set::{BTreeSet, Range};
+pub use rows_by::RowsBy;
 use std::alloc::Global;
 use std::marker::Model;
 use std::mem;

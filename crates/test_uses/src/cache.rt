@@ -10,3 +10,5 @@ mod order;
 mod owned;
 #[cfg(test)]
 mod refusals;
+#[cfg(test)]
+mod walks;

@@ -18,7 +18,7 @@ pub fn put_alone(
     cache: &mut Cache<u64, u64>,
     key: u64,
     value: u64,
-) -> Result<(), (PutError, u64, u64)>
+) -> Result<(), (u64, u64, PutError)>
     ensures budget { OnOk result (cache.new.budget ≡ cache.old.budget) }
 {
     let budget = cache.budget();

@@ -79,7 +79,7 @@ fn what_a_put_takes_out_is_handed_over_in_turn(rt: HostRuntime) -> Result<(), Fa
     assert!(rt; cache.len() == 1 && cache.used() == 3 && cache.peek(&2).copied() == Some(21));
     let mut is_called = false;
     let refused = cache.try_put_with(5, 50, 4, |_key, _value| is_called = true);
-    assert!(rt; refused == Err((PutError::OverBudget, 5, 50)) && !is_called && cache.len() == 1);
+    assert!(rt; refused == Err((5, 50, PutError::OverBudget)) && !is_called && cache.len() == 1);
     Ok(())
 }
 
@@ -125,7 +125,7 @@ fn costs_are_bytes(rt: HostRuntime) -> Result<(), Fail> {
 #[test]
 fn a_cost_above_the_budget_is_refused(rt: HostRuntime) -> Result<(), Fail> {
     let mut cache = of_three(rt.alloc())?;
-    assert!(rt; cache.try_put(1, 70, 4) == Err((PutError::OverBudget, 1, 70)));
+    assert!(rt; cache.try_put(1, 70, 4) == Err((1, 70, PutError::OverBudget)));
     assert!(rt; cache.len() == 3 && cache.used() == 3 && cache.peek(&1).copied() == Some(10));
     assert!(rt; cache.pop_oldest() == Some((1, 10)));
     Ok(())

@@ -29,7 +29,7 @@ fn costs(rt: HostRuntime) -> Result<(), Fail> {
     cache.try_put('b', 2, 30)?;
     assert_eq!(rt; (cache.used(), cache.budget()), (90, 100));
     let refused = cache.try_put('c', 3, 101);
-    assert_eq!(rt; refused, Err((PutError::OverBudget, 'c', 3)));
+    assert_eq!(rt; refused, Err(('c', 3, PutError::OverBudget)));
     assert_eq!(rt; cache.remove(&'b'), Some(2));
     assert_eq!(rt; cache.pop_oldest(), Some(('a', 1)));
     // end
@@ -61,6 +61,36 @@ fn handed_over(rt: HostRuntime) -> Result<(), Fail> {
     let mut evicted = None;
     cache.try_put_with('c', 3, 1, |key, value| evicted = Some((key, value)))?;
     assert_eq!(rt; evicted, Some(('a', 1)));
+    // end
+    Ok(())
+}
+
+#[test]
+fn in_the_order_of_use(rt: HostRuntime) -> Result<(), Fail> {
+    let alloc = rt.alloc();
+    // example: Cache::iter
+    let mut cache = Cache::new(alloc, 2);
+    cache.try_put('a', 1u64, 1)?;
+    cache.try_put('b', 2, 1)?;
+    assert_eq!(rt; cache.get(&'a'), Some(&1)); // is used last now
+    let mut walk = cache.iter(); // from the least to the most lately used
+    assert_eq!(rt; walk.next(), Some((&'b', &2)));
+    assert_eq!(rt; walk.next_back(), Some((&'a', &1)));
+    // end
+    Ok(())
+}
+
+#[test]
+fn written_in_place(rt: HostRuntime) -> Result<(), Fail> {
+    let alloc = rt.alloc();
+    // example: Cache::get_mut, Cache::peek_mut
+    let mut cache = Cache::new(alloc, 2);
+    cache.try_put('a', 1u64, 1)?;
+    if let Some(value) = cache.get_mut(&'a') {
+        *value = 10; // is used last now, as by `get`; `peek_mut` is no use
+    }
+    assert!(rt; cache.peek_mut(&'b').is_none());
+    assert_eq!(rt; cache.peek(&'a'), Some(&10));
     // end
     Ok(())
 }

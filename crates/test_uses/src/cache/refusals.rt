@@ -11,7 +11,7 @@ fn fill(cache: &mut Numbers<'_>) -> Option<u64> {
     for key in 0..1000u64 {
         match cache.try_put(key, key.wrapping_mul(10), 1) {
             Ok(()) => (),
-            Err((error, back, value)) => {
+            Err((back, value, error)) => {
                 let is_refused = error == PutError::Refused(TryReserveError::AllocError);
                 if is_refused && back == key && value == key.wrapping_mul(10) {
                     return Some(key);
@@ -48,7 +48,7 @@ fn a_refused_request_leaves_the_cache(rt: HostRuntime) -> Result<(), Fail> {
     for key in 0..40u64 {
         match cache.try_put(key, key, 1) {
             Ok(()) => assert!(rt; cache.peek(&key).copied() == Some(key)),
-            Err((_error, back, _value)) => {
+            Err((back, _value, _error)) => {
                 assert!(rt; back == key && cache.peek(&key).is_none());
                 if 0 < key {
                     assert!(rt; cache.peek(&key.wrapping_sub(1)).is_some());
