@@ -55,6 +55,7 @@ jobs! {
     bench_budget_whole([keys: u64, others: u64], way: u64, is_in_budget: bool) -> u64;
     bench_intervals_run([starts: u64, points: u64, ranges: u64, puts: u64, cuts: u64], short: u64, long: u64) -> u64;
     bench_timers_run([times: u64, moved: usize, later: u64, cancelled: usize], now: u64) -> u64;
+    bench_timers_steady([times: u64, steps: u64, later: u64]) -> u64;
     bench_tables_run([ids: u64, firsts: u64, seconds: u64, sought: u64, keys: u64, removed: u64]) -> u64;
     bench_caches_run([keys: u64, others: u64, sought: u64, missing: u64], budget: usize) -> u64;
     bench_own_run([keys: u64, sought: u64, removed: u64]) -> u64;

@@ -38,9 +38,10 @@ UNCOUNTED = {
     "fc_index/src/steps.rt": {"take_out_old"},
     # times of timers, and ranges that are written, or walked over, whose comparisons no contract tells of
     "fc_timers/src/order.rt": {"precedes"},
-    "fc_timers/src/queue.rt": {"first_due", "pop_due"},
+    "fc_timers/src/slots.rt": {"first_due", "pop_due"},
     "fc_intervals/src/gaps.rt": {"next"},
     "fc_intervals/src/map.rt": {"put", "cut"},
+    "fc_intervals/src/map/joined.rt": {"put_joined"},
     "fc_intervals/src/joins.rt": {"joint_end"},
     "fc_intervals/src/steps.rt": {"is_free", "rest_after", "end_at"},
     # collections compared with one another

@@ -18,20 +18,20 @@ fn made(alloc: Global, pairs: u64) -> Option<(Queue, Vec<Timer>)> {
 }
 
 fn rescheduled(queue: &mut Queue, timer: Timer) -> Option<u64> {
-    let at = queue.get(timer)?.at;
-    queue.reschedule(timer, at.wrapping_add(10))
+    let at = *queue.get(timer)?.0;
+    queue.reschedule(timer, at.wrapping_add(10)).ok()
 }
 
 fn ask(queue: &mut Queue, way: u64, timer: Timer, turn: u64) -> Option<u64> {
     match way {
-        0 => queue.get(timer).map(|armed| armed.at),
+        0 => queue.get(timer).map(|(at, _value)| *at),
         1 => queue.next_deadline().copied(),
         2 => Some((queue.len() ^ queue.capacity()) as u64),
         3 => rescheduled(queue, timer),
         4 => queue.cancel(timer).map(|(at, value)| at ^ value),
         5 => Some(u64::from(queue.try_insert(turn, turn).is_ok())),
-        6 => queue.pop_due(&u64::MAX).map(|(at, value)| at ^ value),
-        _ => queue.pop_due(&0).map(|(at, value)| at ^ value),
+        6 => queue.pop_due(&u64::MAX).map(|(_timer, at, value)| at ^ value),
+        _ => queue.pop_due(&0).map(|(_timer, at, value)| at ^ value),
     }
 }
 

@@ -4,6 +4,7 @@
 
 mod caches;
 mod intervals;
+mod steady_timers;
 mod tables;
 mod timers;
 

@@ -31,7 +31,7 @@ fn reschedule_all(
     let mut seen = checksum;
     for (number, at) in moved.iter().zip(times) {
         let was = match timers.get(*number) {
-            Some(timer) => queue.reschedule(*timer, *at),
+            Some(timer) => queue.reschedule(*timer, *at).ok(),
             None => None,
         };
         seen = mixed(seen, was);
@@ -56,7 +56,7 @@ fn cancel_all(queue: &mut Queue, timers: &[Timer], cancelled: &[usize], checksum
 fn pop_all(queue: &mut Queue, now: u64, checksum: u64) -> u64 {
     let mut seen = checksum;
     for _ in 0..queue.len() {
-        let Some((at, value)) = queue.pop_due(&now) else {
+        let Some((_timer, at, value)) = queue.pop_due(&now) else {
             return seen;
         };
         seen = mixed(seen, Some(at ^ value));
