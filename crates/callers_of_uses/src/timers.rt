@@ -15,7 +15,6 @@ pub fn insert_then_cancel(
     ensures timers { queue.new.timers ≡ queue.old.timers }
     ensures unchanged { OnErr result (queue.new ≡ queue.old) }
 {
-    let _len = queue.len(); // which tells that the list is in order
     match queue.try_insert(at, value) {
         Ok(timer) => {
             queue.cancel(timer);
@@ -54,6 +53,5 @@ pub fn expire(queue: &mut TimerQueue<u64, u64>, timer: Timer, now: u64)
     ensures out { (e : (ℕ × ℕ) × (Key × ℕ)) → found queue.old.timers timer ≡ Some e → is_le (nat_cmp (time_of e) now) ≡ true → found (due_by nat_cmp queue.old.timers now) timer ≡ Some e }
     ensures gone { (e : (ℕ × ℕ) × (Key × ℕ)) → found queue.old.timers timer ≡ Some e → is_le (nat_cmp (time_of e) now) ≡ true → found queue.new.timers timer ≡ None }
 {
-    let _len = queue.len();
     queue.drain_due(&now, |_timer, _at, _value| ());
 }

@@ -1,6 +1,6 @@
 -- What a call makes of the list of the timers in the slots.
-use Rattle.std.proofs.Common.{◌≡◌, ◌≢◌, ℕ, ◌<◌, ◌≤◌, suc, ◌+◌, Bool, true, false, List, [], ◌∷◌, length, set, All, Option}
-use Rattle.std.proofs.Common.{Some, None, inl, inr, refl, sym, ap, ◌∙◌, subst, arith}
+use Rattle.std.proofs.Common.{◌≡◌, ◌≢◌, ℕ, ◌<◌, ◌≤◌, ◌+◌, true, false, ◌∷◌, length, set, Option}
+use Rattle.std.proofs.Common.{Some, None, inl, inr, refl, sym, ap, ◌∙◌, arith}
 use Rattle.std.specs.Prelude.{leb}
 use Rattle.std.proofs.lemmas.Bool.{leb-true}
 use Rattle.std.specs.Cmp.{IsTotalOrder, nat_cmp_is}
@@ -18,9 +18,9 @@ use Rattle.fc_timers.specs.declared.timer.Timer.{Timer}
 use Rattle.fc_timers.specs.declared.timer.Armed.{Armed}
 use Rattle.fc_timers.specs.Slotted.{Slotted, armed, newly, renewed, timer_count, by_turn, precedes}
 use Rattle.fc_timers.specs.Slotted.{AreGivenOut, IsChanged, IsEarliest, IsPopped, NoneDue as NoneOfSlotsDue}
-use Rattle.fc_timers.specs.Timers.{Queue, NoneDue, IsInOrder, by_time_then_turn, found, first_turn, time_of, timer_of, turn_of, without}
-use Rattle.fc_timers.specs.InOrder.{entry, in_order, IsListOf}
-use Rattle.fc_timers.proofs.Entries.{found_passes, none_found, none_passes, same_false, same_is, same_true, so_of_found, without_put}
+use Rattle.fc_timers.specs.Timers.{NoneDue, IsInOrder, by_time_then_turn, found, first_turn, timer_of, turn_of, without}
+use Rattle.fc_timers.specs.InOrder.{entry, in_order}
+use Rattle.fc_timers.proofs.Entries.{found_passes, none_passes, same_is, same_true, so_of_found, without_put}
 use Rattle.fc_timers.proofs.Kept.{taken_out}
 use Rattle.fc_timers.proofs.OfQueue.{AreApart, both_equal, is_list, list_with, listed_ascends, listed_length, one_list, order_total, slots_apart, timer_decided}
 use Rattle.fc_timers.proofs.SameLists.{all_found, at_put_new, found_equal, of_found}

@@ -1,16 +1,17 @@
 -- A heap, while what stands in it is moved, put in or taken out: places and slots as functions.
-use Rattle.std.proofs.Common.{◌≡◌, ◌≢◌, ℕ, zero, suc, ◌+◌, ◌*◌, ◌/◌, ◌<◌, ◌≤◌, Bool, true, false, List, length, get_or, set}
+use Rattle.std.proofs.Common.{◌≡◌, ◌≢◌, ℕ, zero, suc, ◌+◌, ◌*◌, ◌/◌, ◌<◌, ◌≤◌, ◌⊎◌, List, [], ◌∷◌, ◌++◌, length, get_or, set}
 use Rattle.std.proofs.Common.{if◌then◌else◌, Option, Some, None, refl, sym, ap, subst, ◌∙◌, inl, inr, arith}
 use Rattle.std.proofs.lemmas.Bool.{cases_eq, cases_lt, eq-eqb, ne_eqb}
 use Rattle.std.proofs.lemmas.List.{get_or-set_same, get_or-set_other, get_or_past}
+use Rattle.std.proofs.lemmas.Option.{slice_get_past}
 use Rattle.std.specs.Cmp.{IsTotalOrder}
+use Rattle.std.specs.List.{slice_get}
+use Rattle.std.specs.Option.{IfNone}
 use Rattle.std.specs.declared.cmp.Ordering.{Ordering}
 use Rattle.fc_timers.specs.declared.timer.Armed.{Armed}
 use Rattle.fc_timers.specs.declared.slot.Due.{Due}
-use Rattle.std.specs.Option.{IfNone, IfSome}
-use Rattle.fc_timers.specs.Slotted.{due_first}
-use Rattle.fc_timers.specs.Heap.{earlier_found, IsAbove, IsAtMost, IsFirstBelow, IsIndexed, IsOrdered, IsOrderedBut, IsOver, IsUnder, own_due, put_at}
-use Rattle.fc_timers.proofs.Turns.{due_first_chained, due_first_itself, due_first_turned}
+use Rattle.fc_timers.specs.Heap.{IsAbove, IsAtMost, IsFirstBelow, IsFirstOf, IsIndexed, IsOrdered, IsOrderedBut, IsOver, IsUnder, own_due, put_at}
+use Rattle.fc_timers.proofs.Turns.{due_first_chained, due_first_itself}
 
 pub within_some : {X : Type 0} (xs : List (Option X)) (k : ℕ) → get_or xs k None ≢ None → k < length xs
 within_some xs k some = elim (cases_lt k (length xs)) [ inl within ↦ within | inr after ↦ absurd (some (get_or_past xs k None after)) ]
@@ -31,6 +32,40 @@ set_put xs p x d within k = elim (cases_eq k p) [
   | inl here ↦ ap (λ j. get_or (set xs p x) j d) here ∙ get_or-set_same xs p x d within ∙ sym (put_here (λ j. get_or xs j d) p x k here)
   | inr other ↦ get_or-set_other xs p k x d other ∙ sym (put_other (λ j. get_or xs j d) p x k other)
 ]
+
+module _ {X : Type 0} where
+  get_set_same : (xs : List X) (p : ℕ) (x : X) → p < length xs → slice_get (set xs p x) p ≡ Some x
+  get_set_same [] p x within = absurd (omega arith)
+  get_set_same (y ∷ xs) zero x within = refl
+  get_set_same (y ∷ xs) (suc p) x within = get_set_same xs p x (omega arith)
+
+  get_set_other : (xs : List X) (p k : ℕ) (x : X) → k ≢ p → slice_get (set xs p x) k ≡ slice_get xs k
+  get_set_other [] p k x other = refl
+  get_set_other (y ∷ xs) zero zero x other = absurd (other refl)
+  get_set_other (y ∷ xs) zero (suc k) x other = refl
+  get_set_other (y ∷ xs) (suc p) zero x other = refl
+  get_set_other (y ∷ xs) (suc p) (suc k) x other = get_set_other xs p k x (λ same. other (ap suc same))
+
+  pub get_set : (xs : List X) (p : ℕ) (x : X) → p < length xs → (k : ℕ) → slice_get (set xs p x) k ≡ put_at (slice_get xs) p (Some x) k
+  get_set xs p x within k = elim (cases_eq k p) [
+    | inl here ↦ ap (slice_get (set xs p x)) here ∙ get_set_same xs p x within ∙ sym (put_here (slice_get xs) p (Some x) k here)
+    | inr other ↦ get_set_other xs p k x other ∙ sym (put_other (slice_get xs) p (Some x) k other)
+  ]
+
+  pub get_last : (xs : List X) (x : X) → slice_get (xs ++ x ∷ []) (length xs) ≡ Some x
+  get_last [] x = refl
+  get_last (y ∷ xs) x = get_last xs x
+
+  pub get_others : (xs : List X) (x : X) (k : ℕ) → k ≢ length xs → slice_get (xs ++ x ∷ []) k ≡ slice_get xs k
+  get_others [] x zero other = absurd (other refl)
+  get_others [] x (suc k) other = refl
+  get_others (y ∷ xs) x zero other = refl
+  get_others (y ∷ xs) x (suc k) other = get_others xs x k (λ same. other (ap suc same))
+
+  pub get_within : (xs : List X) (k : ℕ) → k < length xs → (x : X) × (slice_get xs k ≡ Some x)
+  get_within [] k within = absurd (omega arith)
+  get_within (x ∷ xs) zero within = (x, refl)
+  get_within (x ∷ xs) (suc k) within = get_within xs k (omega arith)
 
 module _ {T : Type 0} (cmp : T → T → Ordering) where
   module _ (due : ℕ → Option (Due T)) (p : ℕ) where
@@ -71,6 +106,14 @@ module _ {T : Type 0} (cmp : T → T → Ordering) where
         | inr off ↦ rw (put_other due p None j off, put_other due p None k other) (s j k h)
       ]
     ]
+
+    -- A place is made at the end of a heap, where nothing stands below.
+    pub order_longer : (due' : ℕ → Option (Due T)) → ((k : ℕ) → k ≢ p → due' k ≡ due k) → ((k : ℕ) → p < k → due k ≡ None) → IsOrdered cmp due
+        → IsOrderedBut cmp due' p
+    order_longer due' same after s = record {
+      others = λ j k h apart other. rw (same j apart, same k other) (s j k h);
+      across = λ j k h below. rw (same k (omega (arith, below)), after k (omega (arith, below))) tt;
+    }
 
 module _ {T : Type 0} {cmp : T → T → Ordering} (o : IsTotalOrder cmp) where
   pub at_most_itself : (a : Option (Due T)) → IsAtMost cmp a a
@@ -118,88 +161,67 @@ module _ {T : Type 0} {cmp : T → T → Ordering} (o : IsTotalOrder cmp) where
     order_top (suc fuel) (suc j) within =
         at_most_chained (due 0) (due (j / 4)) (due (suc j)) (order_top fuel (j / 4) (omega arith)) (s (j / 4) (suc j) (omega arith, omega arith))
 
+  module _ (due : ℕ → Option (Due T)) where
+    pub first_alone : (p to : ℕ) → to ≡ p + 1 → IsFirstOf cmp due p to p
+    first_alone p to one = record {
+      within = (omega arith, omega (arith, one));
+      first = λ k after before. subst (λ j. IsAtMost cmp (due p) (due j)) (omega (arith, one, after, before)) (at_most_itself (due p));
+    }
+
+    -- Of the firsts of what stands at places and of what stands at those after them one is the first of all.
+    pub first_merged : (from mid to x y r : ℕ) → IsFirstOf cmp due from mid x → IsFirstOf cmp due mid to y → (r ≡ x) ⊎ (r ≡ y)
+        → IsAtMost cmp (due r) (due x) → IsAtMost cmp (due r) (due y) → IsFirstOf cmp due from to r
+    first_merged from mid to x y r one other either before_one before_other = record {
+      within = elim either [
+        | inl same ↦ (omega (arith, same, one.within), omega (arith, same, one.within, other.within))
+        | inr same ↦ (omega (arith, same, one.within, other.within), omega (arith, same, other.within))
+      ];
+      first = λ k after before. elim (cases_lt k mid) [
+        | inl low ↦ at_most_chained (due r) (due x) (due k) before_one (one.first k after low)
+        | inr high ↦ at_most_chained (due r) (due y) (due k) before_other (other.first k high before)
+      ];
+    }
+
+  -- The first of the places right below one, of which there are four, or those before the end.
+  pub below_from : (heap : List (Due T)) (p to r : ℕ) → IsFirstOf cmp (slice_get heap) (4 * p + 1) to r → to ≤ length heap → to ≤ 4 * p + 5
+      → (4 * p + 5 ≤ to) ⊎ (length heap ≤ to) → (d : Due T) × IsFirstBelow cmp (slice_get heap) p r d
+  below_from heap p to r f short few all =
+      let stands = get_within heap r (omega (arith, f.within, short)) in (
+        stands.0,
+        record {
+          below = (omega (arith, f.within), omega (arith, f.within, few));
+          stands = stands.1;
+          first = λ k above. elim (cases_lt k to) [
+            | inl before ↦ subst (λ x. IsAtMost cmp x (slice_get heap k)) stands.1 (f.first k (omega (arith, above)) before)
+            | inr after ↦ subst (IsAtMost cmp (Some stands.0)) (sym (slice_get_past heap k (elim all [
+              | inl four ↦ absurd (omega (arith, four, above, after))
+              | inr end ↦ omega (arith, end, after)
+            ]))) tt
+          ];
+        },
+      )
+
+  -- What nothing stands below is due after nothing there.
+  pub none_over : (due : ℕ → Option (Due T)) (p : ℕ) (d : Due T) → ((k : ℕ) → IsAbove p k → due k ≡ None) → IsOver cmp due p d
+  none_over due p d none k above = subst (IsAtMost cmp (Some d)) (sym (none k above)) tt
+
   module _ (due : ℕ → Option (Due T)) (p : ℕ) where
-    -- What was found is the first of what stands from a place on, before another one.
-    abbrev IsBest : ℕ → ℕ → Option (ℕ × Due T) → Type 0
-    IsBest from to None = (k : ℕ) → from ≤ k → k < to → due k ≡ None
-    IsBest from to (Some f) =
-        (from ≤ f.0) × (f.0 < to) × (due f.0 ≡ Some f.1) × ((k : ℕ) → from ≤ k → k < to → IsAtMost cmp (Some f.1) (due k))
-
-    best_more : (from to next : ℕ) → next ≡ to + 1 → from ≤ to → (found : Option (ℕ × Due T)) (x : Option (Due T)) → due to ≡ x → IsBest from to found
-        → IsBest from next (earlier_found cmp found to x)
-    best_more from to next one some None None is best = λ k after before. elim (cases_eq k to) [
-      | inl last ↦ ap due last ∙ is
-      | inr other ↦ best k after (omega (arith, one, before))
+    -- What came down from above a place is due after what the place is open for, and so is what else stands below where it stood.
+    pub over_risen : (j : ℕ) (d x : Due T) → IsAbove j p → due j ≡ Some x → IsAtMost cmp (Some d) (Some x) → IsOrderedBut cmp due p
+        → IsOver cmp (put_at due p (Some x)) j d
+    over_risen j d x above is later s k h = elim (cases_eq k p) [
+      | inl at_p ↦ rw (put_here due p (Some x) k at_p) later
+      | inr off ↦ rw (put_other due p (Some x) k off) (at_most_chained (Some d) (Some x) (due k) later
+          (subst (λ y. IsAtMost cmp y (due k)) is (s.others j k h (omega (arith, above)) off)))
     ]
-    best_more from to next one some (Some f) None is best = (
-      best.0,
-      omega (arith, best.1, one),
-      best.2,
-      λ k after before. elim (cases_eq k to) [
-        | inl last ↦ subst (IsAtMost cmp (Some f.1)) (sym (ap due last ∙ is)) tt
-        | inr other ↦ best.3 k after (omega (arith, one, before))
-      ],
-    )
-    best_more from to next one some None (Some b) is best = (
-      some,
-      omega (arith, one),
-      is,
-      λ k after before. elim (cases_eq k to) [
-        | inl last ↦ subst (IsAtMost cmp (Some b)) (sym (ap due last ∙ is)) (at_most_itself (Some b))
-        | inr other ↦ subst (IsAtMost cmp (Some b)) (sym (best k after (omega (arith, one, before)))) tt
-      ],
-    )
-    best_more from to next one some (Some f) (Some b) is best = by_test (due_first cmp f.1.at f.1.turn b.at b.turn) refl
-      where
-        by_test : (t : Bool) → due_first cmp f.1.at f.1.turn b.at b.turn ≡ t → IsBest from next (if t then Some f else Some (to, b))
-        by_test true e = (
-          best.0,
-          omega (arith, best.1, one),
-          best.2,
-          λ k after before. elim (cases_eq k to) [
-            | inl last ↦ subst (IsAtMost cmp (Some f.1)) (sym (ap due last ∙ is)) e
-            | inr other ↦ best.3 k after (omega (arith, one, before))
-          ],
-        )
-        by_test false e = (
-          some,
-          omega (arith, one),
-          is,
-          λ k after before. elim (cases_eq k to) [
-            | inl last ↦ subst (IsAtMost cmp (Some b)) (sym (ap due last ∙ is)) (at_most_itself (Some b))
-            | inr other ↦ at_most_chained (Some b) (Some f.1) (due k) (due_first_turned o f.1.at f.1.turn b.at b.turn e)
-                (best.3 k after (omega (arith, one, before)))
-          ],
-        )
-
-    -- The first of the four places below.
-    pub first_of_four : (one two three four : Option (ℕ × Due T)) → one ≡ earlier_found cmp None (4 * p + 1) (due (4 * p + 1))
-        → two ≡ earlier_found cmp one (4 * p + 1 + 1) (due (4 * p + 1 + 1)) → three ≡ earlier_found cmp two (4 * p + 1 + 2) (due (4 * p + 1 + 2))
-        → four ≡ earlier_found cmp three (4 * p + 1 + 3) (due (4 * p + 1 + 3))
-        → IfSome four (λ f. IsFirstBelow cmp due p f.0 f.1) × IfNone four ((k : ℕ) → IsAbove p k → due k ≡ None)
-    first_of_four one two three four e f g h = told four (step (4 * p + 1 + 3) (4 * p + 5) (omega arith) (omega arith) three four h
-        (step (4 * p + 1 + 2) (4 * p + 1 + 3) (omega arith) (omega arith) two three g
-        (step (4 * p + 1 + 1) (4 * p + 1 + 2) (omega arith) (omega arith) one two f
-        (step (4 * p + 1) (4 * p + 1 + 1) (omega arith) (omega arith) None one e (λ k after before. absurd (omega arith))))))
-      where
-        step : (to next : ℕ) → next ≡ to + 1 → 4 * p + 1 ≤ to → (found found' : Option (ℕ × Due T)) → found' ≡ earlier_found cmp found to (due to)
-            → IsBest (4 * p + 1) to found → IsBest (4 * p + 1) next found'
-        step to next one some found found' is best = subst (IsBest (4 * p + 1) next) (sym is) (best_more (4 * p + 1) to next one some found (due to) refl best)
-
-        told : (r : Option (ℕ × Due T)) → IsBest (4 * p + 1) (4 * p + 5) r
-            → IfSome r (λ f. IsFirstBelow cmp due p f.0 f.1) × IfNone r ((k : ℕ) → IsAbove p k → due k ≡ None)
-        told None b = (tt, λ k above. b k (omega (arith, above)) (omega (arith, above)))
-        told (Some f) b = (
-          record {
-            below = (omega (arith, b.0), omega (arith, b.1));
-            stands = b.2;
-            first = λ k above. b.3 k (omega (arith, above)) (omega (arith, above));
-          },
-          tt,
-        )
 
     pub over_chained : (d x : Due T) → IsAtMost cmp (Some d) (Some x) → IsOver cmp due p x → IsOver cmp due p d
     over_chained d x before over k above = at_most_chained (Some d) (Some x) (due k) before (over k above)
+
+pub none_from : {X Y : Type 0} (heap : List X) (p : ℕ) (r : Option Y) → IfNone r (length heap ≤ 4 * p + 1)
+    → IfNone r ((k : ℕ) → IsAbove p k → slice_get heap k ≡ None)
+none_from heap p None short = λ k above. slice_get_past heap k (omega (arith, short, above))
+none_from heap p (Some x) short = tt
 
 -- Two values change places.
 pub record IsSwapped {X : Type 0} (f g : ℕ → X) (p q : ℕ) : Type 0 where
@@ -223,28 +245,15 @@ module _ {T V : Type 0} where
   own_slot : (k : ℕ) (a : Armed T V) (d : Due T) → own_due k (Some a) ≡ Some d → d.slot ≡ k
   own_slot k a d e = let whole : record { at = a.at; turn = a.turn; slot = k } ≡ d = cc in ap (λ x. x.slot) (sym whole)
 
-  module _ (held : ℕ → Option (Armed T V)) (due : ℕ → Option (Due T)) (link : ℕ → ℕ) (n : ℕ) (i : IsIndexed held due link n) where
-    -- A place that is taken is one of the first.
-    pub taken_within : (p : ℕ) (d : Due T) → due p ≡ Some d → p < n
-    taken_within p d e = elim (cases_lt p n) [ inl within ↦ within | inr after ↦ let none = i.free p after in absurd cc ]
-
+  module _ (held : ℕ → Option (Armed T V)) (due : ℕ → Option (Due T)) (link : ℕ → ℕ) (i : IsIndexed held due link) where
     -- Two places that are apart lead to two slots.
     pub slots_apart : (p q : ℕ) (x y : Due T) → due p ≡ Some x → due q ≡ Some y → p ≢ q → x.slot ≢ y.slot
     slots_apart p q x y e f apart same = apart (sym (i.named p x e).1 ∙ ap link same ∙ (i.named q y f).1)
 
     -- What stands at two places changes places, and the two slots lead to them.
     pub index_swapped : (p q : ℕ) (x y : Due T) → due p ≡ Some x → due q ≡ Some y → p ≢ q → (due' : ℕ → Option (Due T)) (link' : ℕ → ℕ)
-        → IsSwapped due due' p q → IsSwapped link link' x.slot y.slot → IsIndexed held due' link' n
+        → IsSwapped due due' p q → IsSwapped link link' x.slot y.slot → IsIndexed held due' link'
     index_swapped p q x y e f apart due' link' s t = record {
-      taken = λ k below. elim (cases_eq k p) [
-        | inl at_p ↦ rw (ap due' at_p ∙ s.one ∙ f) refl
-        | inr off ↦ elim (cases_eq k q) [
-          | inl at_q ↦ rw (ap due' at_q ∙ s.other ∙ e) refl
-          | inr far ↦ rw (s.rest k off far) (i.taken k below)
-        ]
-      ];
-      free = λ k after. s.rest k (λ at_p. let here = taken_within p x e in absurd (omega arith)) (λ at_q. let here = taken_within q y f in absurd (omega arith))
-          ∙ i.free k after;
       named = λ k d is. elim (cases_eq k p) [
         | inl at_p ↦
             let same : y ≡ d = some_same y d (sym (ap due' at_p ∙ s.one ∙ f) ∙ is) in
@@ -276,15 +285,10 @@ module _ {T V : Type 0} where
       ];
     }
 
-    -- A timer is put into a slot where none stands, at the first place that is free.
-    pub index_put : (s : ℕ) (a : Armed T V) (held' : ℕ → Option (Armed T V)) (due' : ℕ → Option (Due T)) (link' : ℕ → ℕ) → held s ≡ None
-        → IsSet held held' s (Some a) → IsSet due due' n (own_due s (Some a)) → IsSet link link' s n → IsIndexed held' due' link' (n + 1)
-    index_put s a held' due' link' none h d l = record {
-      taken = λ k below. elim (cases_eq k n) [
-        | inl last ↦ rw (ap due' last ∙ d.here) refl
-        | inr other ↦ rw (d.rest k other) (i.taken k (omega arith))
-      ];
-      free = λ k after. d.rest k (omega arith) ∙ i.free k (omega arith);
+    -- A timer is put into a slot where none stands, at a place where nothing stands.
+    pub index_put : (n s : ℕ) (a : Armed T V) (held' : ℕ → Option (Armed T V)) (due' : ℕ → Option (Due T)) (link' : ℕ → ℕ) → due n ≡ None
+        → held s ≡ None → IsSet held held' s (Some a) → IsSet due due' n (own_due s (Some a)) → IsSet link link' s n → IsIndexed held' due' link'
+    index_put n s a held' due' link' free none h d l = record {
       named = λ k x is. elim (cases_eq k n) [
         | inl last ↦
             let same = some_same _ x (sym (ap due' last ∙ d.here) ∙ is) in
@@ -298,14 +302,14 @@ module _ {T V : Type 0} where
         | inl at_s ↦ ap due' (ap link' at_s ∙ l.here) ∙ d.here ∙ (sym (ap (own_due s) h.here) ∙ ap (λ j. own_due j (held' j)) (sym at_s)) ∙ ap (own_due k) is
         | inr other ↦
             let stands = i.placed k b (sym (h.rest k other) ∙ is) in
-            let apart : link k ≢ n = λ at_n. let free = i.free (link k) (omega arith) in cc in
+            let apart : link k ≢ n = λ at_n. let none = ap due at_n ∙ free in absurd cc in
             ap due' (l.rest k other) ∙ d.rest (link k) apart ∙ stands
       ];
     }
 
     -- The time of a timer is written anew, in its slot and at its place.
     pub index_renewed : (s : ℕ) (a b : Armed T V) (held' : ℕ → Option (Armed T V)) (due' : ℕ → Option (Due T)) (link' : ℕ → ℕ) → held s ≡ Some a
-        → IsSet held held' s (Some b) → IsSet due due' (link s) (own_due s (Some b)) → IsSet link link' s (link s) → IsIndexed held' due' link' n
+        → IsSet held held' s (Some b) → IsSet due due' (link s) (own_due s (Some b)) → IsSet link link' s (link s) → IsIndexed held' due' link'
     index_renewed s a b held' due' link' was h d l =
         let here : due (link s) ≡ own_due s (Some a) = i.placed s a was in
         let back : (k : ℕ) → link' k ≡ link k = λ k. elim (cases_eq k s) [
@@ -313,11 +317,6 @@ module _ {T V : Type 0} where
           | inr other ↦ l.rest k other
         ] in
         record {
-          taken = λ k below. elim (cases_eq k (link s)) [
-            | inl same ↦ rw (ap due' same ∙ d.here) refl
-            | inr other ↦ rw (d.rest k other) (i.taken k below)
-          ];
-          free = λ k after. d.rest k (λ same. let none = i.free k after in let some = ap due same ∙ here in cc) ∙ i.free k after;
           named = λ k x is. elim (cases_eq k (link s)) [
             | inl same ↦
                 let whole = some_same _ x (sym (ap due' same ∙ d.here) ∙ is) in
@@ -337,17 +336,15 @@ module _ {T V : Type 0} where
         }
 
   -- The timer at the last place is taken out.
-  pub index_shorter : (held : ℕ → Option (Armed T V)) (due : ℕ → Option (Due T)) (link : ℕ → ℕ) (m : ℕ) → IsIndexed held due link (m + 1) → (d : Due T)
+  pub index_shorter : (held : ℕ → Option (Armed T V)) (due : ℕ → Option (Due T)) (link : ℕ → ℕ) (m : ℕ) → IsIndexed held due link → (d : Due T)
       → due m ≡ Some d → (held' : ℕ → Option (Armed T V)) (due' : ℕ → Option (Due T)) (link' : ℕ → ℕ) → IsSet held held' d.slot None → IsSet due due' m None
-      → ((k : ℕ) → k ≢ d.slot → link' k ≡ link k) → IsIndexed held' due' link' m
+      → ((k : ℕ) → k ≢ d.slot → link' k ≡ link k) → IsIndexed held' due' link'
   index_shorter held due link m i d last held' due' link' h e l = record {
-    taken = λ k below. rw (e.rest k (omega arith)) (i.taken k (omega arith));
-    free = λ k after. elim (cases_eq k m) [ inl same ↦ ap due' same ∙ e.here | inr other ↦ e.rest k other ∙ i.free k (omega arith) ];
     named = λ k x is. elim (cases_eq k m) [
       | inl same ↦ let none = ap due' same ∙ e.here in absurd cc
       | inr other ↦
           let was = sym (e.rest k other) ∙ is in
-          let apart : x.slot ≢ d.slot = slots_apart held due link (m + 1) i k m x d was last other in
+          let apart : x.slot ≢ d.slot = slots_apart held due link i k m x d was last other in
           (ap (own_due x.slot) (h.rest x.slot apart) ∙ (i.named k x was).0, l x.slot apart ∙ (i.named k x was).1)
     ];
     placed = λ k a is. elim (cases_eq k d.slot) [

@@ -1,16 +1,18 @@
 -- The laws of a queue as a list, for callers.
-use Rattle.std.proofs.Common.{◌≡◌, ◌≢◌, ℕ, ◌+◌, ◌<◌, Bool, true, false, List, [], ◌∷◌, ◌++◌, Option, Some, None, refl, sym, ap, ◌∙◌, subst, arith}
+use Rattle.std.proofs.Common.{◌≡◌, ◌≢◌, ℕ, ◌+◌, ◌<◌, Bool, true, false, cond, List, [], ◌∷◌, ◌++◌, Option, Some, None, refl, sym, ap, ◌∙◌, subst, arith}
 use Rattle.std.specs.Cmp.{IsTotalOrder, nat_cmp_is}
 use Rattle.std.specs.Prelude.{not}
-use Rattle.std.specs.List.{AllByRecursion}
+use Rattle.std.specs.List.{AllByRecursion, AllZip}
 use Rattle.std.specs.Ordering.{is_gt, is_le, is_lt, nat_cmp, ordering_then}
 use Rattle.std.specs.declared.cmp.Ordering.{Ordering}
 use Rattle.std.specs.declared.cmp.Ordering.TheVariants.{Less, Equal, Greater}
 use Rattle.std.proofs.lemmas.List.Elements.{recursion_from_All}
+use Rattle.fc_base.specs.Copies.{SameContents}
 use Rattle.fc_base.specs.OneKey.{put}
 use Rattle.fc_base.specs.Parts.{above, at, below}
 use Rattle.fc_base.proofs.AscendingFacts.{all_filter, all_map}
 use Rattle.fc_timers.specs.declared.timer.Timer.{Timer}
+use Rattle.fc_timers.specs.Copies.{IsCopy}
 use Rattle.fc_timers.specs.Timers.{Queue, IsInOrder, by_time_then_turn, due_after, due_by, first_turn, found, is_same, time_of, timer_of, turn_of, without}
 use Rattle.fc_timers.proofs.Entries.{all_out, filter_alike, found_kept, found_put, found_put_other, has_not_put, none_found, none_passes}
 use Rattle.fc_timers.proofs.Entries.{nothing_next, put_between, same_false, same_true, without_put}
@@ -120,3 +122,19 @@ module _ {T V : Type 0} (cmp : T → T → Ordering) (s : List ((T × ℕ) × (T
       all_same : (s : List ((T × ℕ) × (Timer × V))) → AllByRecursion (λ e. not (is_same (timer_of e) timer) ≡ true → is_same (timer_of e) timer ≡ false) s
       all_same [] = tt
       all_same (e ∷ s) = (one (is_same (timer_of e) timer), all_same s)
+
+-- A timer is found in a copy of a queue where it is found in the queue, at the same time and turn, with a copy of its value.
+pub found_copied : {T V : Type 0} (same : V → V → Type 0) (s t : List ((T × ℕ) × (Timer × V))) → AllZip (IsCopy same) s t → (timer : Timer)
+    → SameContents (IsCopy same) (found s timer) (found t timer)
+found_copied same [] [] z timer = tt
+found_copied same [] (y ∷ t) z timer = absurd z
+found_copied same (x ∷ s) [] z timer = absurd z
+found_copied same (x ∷ s) (y ∷ t) z timer =
+    go (is_same (timer_of x) timer) (is_same (timer_of y) timer) (ap (λ h. is_same h timer) z.0.1) (found_copied same s t z.1 timer)
+  where
+    go : (b c : Bool) → c ≡ b → SameContents (IsCopy same) (found s timer) (found t timer)
+        → SameContents (IsCopy same) (cond b (Some x) (found s timer)) (cond c (Some y) (found t timer))
+    go true true e rest = z.0
+    go true false e rest = absurd cc
+    go false true e rest = absurd cc
+    go false false e rest = rest

@@ -1,3 +1,4 @@
+mod Apart
 mod Calls
 mod Changes
 mod Drained
@@ -5,11 +6,15 @@ mod Entries
 mod Heaps
 mod Kept
 pub mod Laws
+mod ListCopies
+mod ListValues
 mod Listed
 mod Moves
 mod OfQueue
 mod SameLists
+mod SoundCopies
 mod Standing
 mod Thin
 mod Turns
 mod Vacancies
+mod Walked

@@ -1,45 +1,32 @@
 -- The heap among slots, while one place of it is open.
-use Rattle.std.proofs.Common.{◌≡◌, ◌≢◌, ℕ, ◌-◌, ◌/◌, ◌<◌, List, length, get_or, set, count_by}
-use Rattle.std.proofs.Common.{Option, Some, None, is_some, IsSome, refl, sym, ap, subst, ◌∙◌, arith}
-use Rattle.std.proofs.lemmas.List.{get_or-set_other, length-map}
+use Rattle.std.proofs.Common.{◌≡◌, ◌≢◌, ℕ, ◌<◌, List, length, get_or, set, Option, Some, None, refl, sym, ap, subst, ◌∙◌, arith}
+use Rattle.std.proofs.lemmas.List.{get_or-set_other, length-map, length-set}
+use Rattle.std.proofs.lemmas.Option.{slice_get_within}
+use Rattle.std.specs.Cmp.{IsTotalOrder}
+use Rattle.std.specs.List.{slice_get}
 use Rattle.std.specs.declared.cmp.Ordering.{Ordering}
 use Rattle.fc_timers.specs.declared.slot.Due.{Due}
 use Rattle.fc_timers.specs.declared.slot.Slot.{Slot}
 use Rattle.fc_timers.specs.Heap.{AreVacantKept, IsAbove, IsAtMost, IsHeap, IsIndexed, IsOpen, IsOrdered, IsOrderedBut, IsOver, IsUnder}
-use Rattle.fc_timers.specs.Heap.{due_at, dues, held_at, helds, link_at, links, own_due, put_at}
-use Rattle.fc_timers.proofs.Heaps.{IsSwapped, index_swapped, order_closed, own_held, pointwise, put_here, put_other, set_put, taken_within, within_some}
+use Rattle.fc_timers.specs.Heap.{held_at, helds, link_at, links, own_due, put_at}
+use Rattle.fc_timers.proofs.Heaps.{IsSwapped, get_set, index_swapped, order_closed, over_risen, own_held, pointwise, put_here, put_other, set_put, within_some}
 
-module _ {T V : Type 0} {cmp : T → T → Ordering} (slots : List (Slot T V)) (p : ℕ) (d : Due T) (gap : IsOpen cmp slots p d) where
+module _ {T V : Type 0} {cmp : T → T → Ordering} (slots : List (Slot T V)) (heap : List (Due T)) (p : ℕ) (d : Due T) (gap : IsOpen cmp slots heap p d) where
   abbrev filled : ℕ → Option (Due T)
-  filled = put_at (due_at slots) p (Some d)
+  filled = put_at (slice_get heap) p (Some d)
 
   abbrev led : ℕ → ℕ
   led = put_at (link_at slots) d.slot p
-
-  inside : p < length (dues slots)
-  inside = omega (arith, gap.place, length-map slots (λ s. s.due))
 
   slot_inside : d.slot < length (links slots)
   slot_inside = omega (arith, gap.slot, length-map slots (λ s. s.link))
 
   here : filled p ≡ Some d
-  here = put_here (due_at slots) p (Some d) p refl
+  here = put_here (slice_get heap) p (Some d) p refl
 
-  -- What stands below a place that is taken, or above it, is taken.
-  pub under_from : ((x : Due T) → 0 < p → due_at slots ((p - 1) / 4) ≡ Some x → IsAtMost cmp (Some x) (Some d)) → IsUnder cmp (due_at slots) p d
-  under_from each j above = go (due_at slots j) refl
-    where
-      go : (x : Option (Due T)) → due_at slots j ≡ x → IsAtMost cmp x (Some d)
-      go None e =
-          let below = taken_within (held_at slots) filled led _ gap.indexed p d here in
-          let some = gap.indexed.taken j (omega (arith, above)) in
-          let none : filled j ≡ None = put_other (due_at slots) p (Some d) j (omega (arith, above)) ∙ e in
-          absurd (let no : IsSome {T = Due T} None = subst (λ x. IsSome x) none some in cc)
-      go (Some x) e = each x (omega (arith, above)) (ap (due_at slots) (omega (arith, above)) ∙ e)
-
-  module _ (j : ℕ) (o : Due T) (apart : j ≢ p) (stands : due_at slots j ≡ Some o) where
+  module _ (j : ℕ) (o : Due T) (apart : j ≢ p) (stands : slice_get heap j ≡ Some o) where
     there : filled j ≡ Some o
-    there = put_other (due_at slots) p (Some d) j apart ∙ stands
+    there = put_other (slice_get heap) p (Some d) j apart ∙ stands
 
     own : own_due o.slot (held_at slots o.slot) ≡ Some o
     own = (gap.indexed.named j o there).0
@@ -48,7 +35,7 @@ module _ {T V : Type 0} {cmp : T → T → Ordering} (slots : List (Slot T V)) (
     pub moved_slot : o.slot < length slots
     moved_slot = omega (arith, length-map slots (λ s. s.held), within_some (helds slots) o.slot (own_held o.slot _ o own))
 
-    module _ (new : List (Slot T V)) (held : helds new ≡ helds slots) (due : dues new ≡ set (dues slots) p (Some o))
+    module _ (new : List (Slot T V)) (heap' : List (Due T)) (held : helds new ≡ helds slots) (due : heap' ≡ set heap p o)
         (link : links new ≡ set (links slots) o.slot p) where
       -- It has moved to the place that was open, and its own is open now.
       pub moved_vacant : (was : List ℕ) → AreVacantKept slots was → AreVacantKept new was
@@ -58,8 +45,8 @@ module _ {T V : Type 0} {cmp : T → T → Ordering} (slots : List (Slot T V)) (
           ∙ get_or-set_other (links slots) o.slot k p 0 (λ same. own_held o.slot _ o own (ap (held_at slots) (sym same) ∙ vacant))
           ∙ kept k vacant
 
-      dues_are : (k : ℕ) → due_at new k ≡ put_at (due_at slots) p (Some o) k
-      dues_are k = ap (λ l. get_or l k None) due ∙ set_put (dues slots) p (Some o) None inside k
+      dues_are : (k : ℕ) → slice_get heap' k ≡ put_at (slice_get heap) p (Some o) k
+      dues_are k = ap (λ l. slice_get l k) due ∙ get_set heap p o gap.place k
 
       links_are : (k : ℕ) → link_at new k ≡ put_at (link_at slots) o.slot p k
       links_are k = ap (λ l. get_or l k 0) link ∙ set_put (links slots) o.slot p 0 (omega (arith, moved_slot, length-map slots (λ s. s.link))) k
@@ -68,29 +55,37 @@ module _ {T V : Type 0} {cmp : T → T → Ordering} (slots : List (Slot T V)) (
       apart_slots same = apart (sym (gap.indexed.named j o there).1 ∙ ap led same ∙ put_here (link_at slots) d.slot p d.slot refl)
 
       -- It is due before what the place is open for, and stands above the place that is open now.
-      pub moved_under : IsAbove p j → IsAtMost cmp (Some o) (Some d) → IsUnder cmp (due_at new) j d
+      pub moved_under : IsAbove p j → IsAtMost cmp (Some o) (Some d) → IsUnder cmp (slice_get heap') j d
       moved_under below before i above =
-          subst (λ x. IsAtMost cmp x (Some d)) (sym (dues_are i ∙ put_here (due_at slots) p (Some o) i (omega (arith, below, above)))) before
+          subst (λ x. IsAtMost cmp x (Some d)) (sym (dues_are i ∙ put_here (slice_get heap) p (Some o) i (omega (arith, below, above)))) before
 
-      pub moved_gap : IsOrderedBut cmp (put_at (due_at slots) p (Some o)) j → IsOpen cmp new j d
+      -- It is due after what the place is open for, and stands below the place that is open now.
+      pub moved_over : IsTotalOrder cmp → IsAbove j p → IsAtMost cmp (Some d) (Some o) → IsOver cmp (slice_get heap') j d
+      moved_over total above later =
+          subst (λ f. IsOver cmp f j d) (sym (pointwise _ _ dues_are)) (over_risen total (slice_get heap) p j d o above stands later gap.ordered)
+
+      pub moved_len : length heap' ≡ length heap
+      moved_len = ap length due ∙ length-set heap p o
+
+      pub moved_gap : IsOrderedBut cmp (put_at (slice_get heap) p (Some o)) j → IsOpen cmp new heap' j d
       moved_gap ordered = record {
-        place = omega (arith, length-map slots (λ s. s.due), within_some (dues slots) j (λ none. let some = stands in absurd cc), as_long);
+        place = omega (arith, slice_get_within heap j o stands, ap length due, length-set heap p o);
         slot = omega (arith, gap.slot, as_long);
         indexed =
-            subst (λ h. IsIndexed (λ k. get_or h k None) (put_at (due_at new) j (Some d)) (put_at (link_at new) d.slot j) (count_by is_some h)) (sym held)
-            (index_swapped (held_at slots) filled led _ gap.indexed p j d o here there (λ same. apart (sym same)) _ _ swapped led_swapped);
+            subst (λ h. IsIndexed (λ k. get_or h k None) (put_at (slice_get heap') j (Some d)) (put_at (link_at new) d.slot j)) (sym held)
+            (index_swapped (held_at slots) filled led gap.indexed p j d o here there (λ same. apart (sym same)) _ _ swapped led_swapped);
         ordered = subst (λ f. IsOrderedBut cmp f j) (sym (pointwise _ _ dues_are)) ordered;
       }
         where
           as_long : length new ≡ length slots
           as_long = sym (length-map new (λ s. s.held)) ∙ ap length held ∙ length-map slots (λ s. s.held)
 
-          swapped : IsSwapped filled (put_at (due_at new) j (Some d)) p j
+          swapped : IsSwapped filled (put_at (slice_get heap') j (Some d)) p j
           swapped = record {
-            one = put_other (due_at new) j (Some d) p (λ same. apart (sym same)) ∙ dues_are p ∙ put_here (due_at slots) p (Some o) p refl ∙ sym there;
-            other = put_here (due_at new) j (Some d) j refl ∙ sym here;
-            rest = λ k off far. put_other (due_at new) j (Some d) k far ∙ dues_are k ∙ put_other (due_at slots) p (Some o) k off
-                ∙ sym (put_other (due_at slots) p (Some d) k off);
+            one = put_other (slice_get heap') j (Some d) p (λ same. apart (sym same)) ∙ dues_are p ∙ put_here (slice_get heap) p (Some o) p refl ∙ sym there;
+            other = put_here (slice_get heap') j (Some d) j refl ∙ sym here;
+            rest = λ k off far. put_other (slice_get heap') j (Some d) k far ∙ dues_are k ∙ put_other (slice_get heap) p (Some o) k off
+                ∙ sym (put_other (slice_get heap) p (Some d) k off);
           }
 
           led_swapped : IsSwapped led (put_at (link_at new) d.slot j) d.slot o.slot
@@ -102,7 +97,7 @@ module _ {T V : Type 0} {cmp : T → T → Ordering} (slots : List (Slot T V)) (
                 ∙ sym (put_other (link_at slots) d.slot p k off);
           }
 
-  module _ (new : List (Slot T V)) (held : helds new ≡ helds slots) (due : dues new ≡ set (dues slots) p (Some d))
+  module _ (new : List (Slot T V)) (heap' : List (Due T)) (held : helds new ≡ helds slots) (due : heap' ≡ set heap p d)
       (link : links new ≡ set (links slots) d.slot p) where
     pub closed_vacant : (was : List ℕ) → AreVacantKept slots was → AreVacantKept new was
     closed_vacant was kept k none =
@@ -112,17 +107,19 @@ module _ {T V : Type 0} {cmp : T → T → Ordering} (slots : List (Slot T V)) (
         (λ same. own_held d.slot _ d (gap.indexed.named p d here).0 (ap (held_at slots) (sym same) ∙ vacant))
         ∙ kept k vacant
 
+    pub closed_len : length heap' ≡ length heap
+    closed_len = ap length due ∙ length-set heap p d
+
     -- Once the place is closed by what belongs there, the slots are a heap.
-    pub closed_heap : IsUnder cmp (due_at slots) p d → IsOver cmp (due_at slots) p d → IsHeap cmp new
+    pub closed_heap : IsUnder cmp (slice_get heap) p d → IsOver cmp (slice_get heap) p d → IsHeap cmp new heap'
     closed_heap under over =
-        let dues_are : due_at new ≡ filled =
-        pointwise _ _ (λ k. ap (λ l. get_or l k None) due ∙ set_put (dues slots) p (Some d) None inside k) in
+        let dues_are : slice_get heap' ≡ filled = pointwise _ _ (λ k. ap (λ l. slice_get l k) due ∙ get_set heap p d gap.place k) in
         let links_are : link_at new ≡ led = pointwise _ _ (λ k. ap (λ l. get_or l k 0) link ∙ set_put (links slots) d.slot p 0 slot_inside k) in
         record {
-          indexed = subst (λ h. IsIndexed (λ k. get_or h k None) (due_at new) (link_at new) (count_by is_some h)) (sym held)
-              (subst (λ f. IsIndexed (held_at slots) f (link_at new) (count_by is_some (helds slots))) (sym dues_are)
-              (subst (λ l. IsIndexed (held_at slots) filled l (count_by is_some (helds slots))) (sym links_are) gap.indexed));
-          ordered = subst (IsOrdered cmp) (sym dues_are) (order_closed cmp (due_at slots) p d under over gap.ordered);
+          indexed = subst (λ h. IsIndexed (λ k. get_or h k None) (slice_get heap') (link_at new)) (sym held)
+              (subst (λ f. IsIndexed (held_at slots) f (link_at new)) (sym dues_are)
+              (subst (λ l. IsIndexed (held_at slots) filled l) (sym links_are) gap.indexed));
+          ordered = subst (IsOrdered cmp) (sym dues_are) (order_closed cmp (slice_get heap) p d under over gap.ordered);
         }
 
 -- Slots lead where they led, after two changes as after one.

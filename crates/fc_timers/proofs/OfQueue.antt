@@ -60,7 +60,7 @@ module _ {T V : Type 0} where
   pub slots_apart : (q : Slotted T V) → AreApart q → AreSlotsApart q.slots
   slots_apart q apart i j a b e f same = ap (λ t. t.slot) (apart _ _ a b (at_slot q i a e) (at_slot q j b f) same)
 
-  rest_apart : (x : Option (Armed T V)) (h : List (Option (Armed T V))) → AreSlotsApart (x ∷ h) → AreSlotsApart h
+  pub rest_apart : (x : Option (Armed T V)) (h : List (Option (Armed T V))) → AreSlotsApart (x ∷ h) → AreSlotsApart h
   rest_apart x h apart i j a b e f same = omega (arith, apart (suc i) (suc j) a b e f same)
 
   -- The entry of what stands in a slot.
@@ -79,7 +79,7 @@ module _ {T V : Type 0} {cmp : T → T → Ordering} (total : IsTotalOrder cmp) 
   listed_ascends k (None ∷ h) = listed_ascends (k + 1) h
   listed_ascends k (Some a ∷ h) = ascending_put (order cmp) _ _ _ (order_total total) (listed_ascends (k + 1) h)
 
-  none_at : (k : ℕ) (a : Armed T V) (h : List (Option (Armed T V))) → AreSlotsApart (Some a ∷ h)
+  pub none_at : (k : ℕ) (a : Armed T V) (h : List (Option (Armed T V))) → AreSlotsApart (Some a ∷ h)
       → ((x : T × ℕ) (e : (T × ℕ) × (Timer × V)) → at (order cmp) (listed cmp (k + 1) h) x ≡ Some e → IsOfSlot (k + 1) h e)
       → at (order cmp) (listed cmp (k + 1) h) (a.at, a.turn) ≡ None
   none_at k a h apart each = go (at (order cmp) (listed cmp (k + 1) h) (a.at, a.turn)) refl
@@ -94,8 +94,8 @@ module _ {T V : Type 0} {cmp : T → T → Ordering} (total : IsTotalOrder cmp) 
           let same : 0 ≡ suc is.0 = apart 0 (suc is.0) a is.1 refl is.2 turn in
           absurd (omega arith)
 
-  each_listed : (k : ℕ) (h : List (Option (Armed T V))) → AreSlotsApart h → (x : T × ℕ) (e : (T × ℕ) × (Timer × V)) → at (order cmp) (listed cmp k h) x ≡ Some e
-      → IsOfSlot k h e
+  pub each_listed : (k : ℕ) (h : List (Option (Armed T V))) → AreSlotsApart h → (x : T × ℕ) (e : (T × ℕ) × (Timer × V))
+      → at (order cmp) (listed cmp k h) x ≡ Some e → IsOfSlot k h e
   each_listed k [] apart x e found = absurd cc
   each_listed k (None ∷ h) apart x e found = further k None h e (each_listed (k + 1) h (rest_apart None h apart) x e found)
   each_listed k (Some a ∷ h) apart x e found =

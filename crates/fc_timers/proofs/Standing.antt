@@ -4,9 +4,11 @@ use Rattle.std.proofs.Common.{get_or, set, map, Bor, count_by, Option, Some, Non
 use Rattle.std.proofs.lemmas.Bool.{cases_eq}
 use Rattle.std.proofs.lemmas.List.{get_or-set_same, get_or-set_other, get_or_past, get_or-map, length-map}
 use Rattle.std.proofs.lemmas.Cmp.{upto}
+use Rattle.std.proofs.lemmas.Option.{slice_get_past, slice_get_read}
 use Rattle.std.proofs.Math.Dec.{eqb}
 use Rattle.std.proofs.lemmas.Bool.{eqb-true, eq-eqb, ltb-true, ltb-false}
 use Rattle.std.specs.Cmp.{IsTotalOrder}
+use Rattle.std.specs.List.{slice_get}
 use Rattle.std.specs.Slice.{IsItemAt}
 use Rattle.std.specs.Option.{option_copied, IfNone, IfSome}
 use Rattle.std.specs.Ordering.{is_gt, is_le}
@@ -31,6 +33,11 @@ module _ {X Y : Type 0} (f : X → Option Y) where
   pub unread_at : (xs : List X) (k : ℕ) (r : Option (Bor X)) → IsItemAt xs k r → r ≡ None → get_or (map f xs) k None ≡ None
   unread_at xs k None lent e = get_or_past (map f xs) k None (omega (arith, ltb-false k (length xs) (sym lent.0), length-map xs f))
   unread_at xs k (Some y) lent e = absurd cc
+
+-- What a slice lends of a place is what stands there.
+pub lent_at : {X : Type 0} (xs : List X) (k : ℕ) (r : Option (Bor X)) → IsItemAt xs k r → option_copied r ≡ slice_get xs k
+lent_at xs k None lent = sym (slice_get_past xs k (ltb-false k (length xs) (sym lent.0)))
+lent_at xs k (Some y) lent = sym (slice_get_read xs (length xs) k y.now refl (ltb-true k (length xs) (sym lent.0)) lent.1)
 
 module _ {T V : Type 0} where
   -- The timer of a slot, if there is one, has this number.
@@ -176,7 +183,7 @@ module _ {T V : Type 0} {cmp : T → T → Ordering} (o : IsTotalOrder cmp) wher
       by_test true e = e
       by_test false e = let early = upto o a.at b.at now (not_after _ _ first) e in absurd cc
 
-  module _ (q : Slotted T V) (due : ℕ → Option (Due T)) (link : ℕ → ℕ) (n : ℕ) (i : IsIndexed (λ k. get_or q.slots k None) due link n)
+  module _ (q : Slotted T V) (due : ℕ → Option (Due T)) (link : ℕ → ℕ) (i : IsIndexed (λ k. get_or q.slots k None) due link)
       (s : IsOrdered cmp due) where
     -- What stands at the first place is due after no timer.
     top_first : (k : ℕ) (a : Armed T V) → get_or q.slots k None ≡ Some a → IsAtMost cmp (due 0) (own_due k (Some a))

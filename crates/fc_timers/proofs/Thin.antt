@@ -2,16 +2,15 @@
 use Rattle.std.proofs.Common.{◌≡◌, ℕ, ◌+◌, List, [], ◌∷◌, length, Option, Some, None, Result, Ok, Err, Bor, is_some, ◌⊎◌, inl, inr}
 use Rattle.std.proofs.Common.{refl, sym, ap, subst, ◌∙◌, arith}
 use Rattle.std.specs.Cmp.{IsTotalOrder}
-use Rattle.std.specs.List.{AllByRecursion, filter}
 use Rattle.std.specs.Option.{IfNone, IfSome, option_copied, option_map}
-use Rattle.std.specs.Prelude.{not, slice_get, IfOk, IfErr, OnOk, OnErr}
+use Rattle.std.specs.Prelude.{not, slice_get, IfOk, OnOk, OnErr}
 use Rattle.std.specs.declared.cmp.Ordering.{Ordering}
 use Rattle.fc_base.specs.OneKey.{put}
 use Rattle.fc_base.proofs.AscendingFacts.{all_map, kept}
 use Rattle.fc_timers.specs.declared.timer.Timer.{Timer}
 use Rattle.fc_timers.specs.declared.timer.Armed.{Armed}
 use Rattle.fc_timers.specs.Slotted.{AreGivenOut, HasNone, IsChanged, IsEarliest, NoneDue as NoneOfSlotsDue, Slotted, armed, newly, renewed, timer_count}
-use Rattle.fc_timers.specs.Timers.{NoneDue, by_time_then_turn, found, is_same, time_of, timer_of, value_of, without}
+use Rattle.fc_timers.specs.Timers.{NoneDue, by_time_then_turn, found, time_of, value_of, without}
 use Rattle.fc_timers.specs.InOrder.{entry, in_order}
 use Rattle.fc_timers.proofs.Calls.{earliest_is_head, found_in_order, given_inserted, given_renewed, in_order_inserted, in_order_rescheduled}
 use Rattle.fc_timers.proofs.Calls.{length_in_order, none_due_in_order}

@@ -1,5 +1,5 @@
--- The heap among the slots of a queue. No public clause cites this module.
-use Rattle.std.specs.Prelude.{◌≡◌, ◌≢◌, ℕ, zero, suc, ◌+◌, ◌*◌, ◌^◌, ◌<◌, ◌≤◌, ◌==◌, true, if◌then◌else◌, List, map, Option, Some, None, IsSome, is_some, count_by, length, slice_index_or}
+-- The heap of a queue, and the slots that its timers stand in. No public clause cites this module.
+use Rattle.std.specs.Prelude.{◌≡◌, ◌≢◌, ℕ, zero, suc, ◌+◌, ◌*◌, ◌^◌, ◌<◌, ◌≤◌, ◌==◌, true, if◌then◌else◌, List, map, Option, Some, None, is_some, count_by, length, slice_get, slice_index_or}
 use Rattle.std.specs.declared.cmp.Ordering.{Ordering}
 use Rattle.fc_timers.specs.declared.timer.Armed.{Armed}
 use Rattle.fc_timers.specs.declared.slot.Due.{Due}
@@ -10,18 +10,12 @@ module _ {T V : Type 0} where
   abbrev pub helds : List (Slot T V) → List (Option (Armed T V))
   helds slots = map (λ s. s.held) slots
 
-  abbrev pub dues : List (Slot T V) → List (Option (Due T))
-  dues slots = map (λ s. s.due) slots
-
   abbrev pub links : List (Slot T V) → List ℕ
   links slots = map (λ s. s.link) slots
 
-  -- The timer in a slot, what stands at a place of the heap, and where a slot leads.
+  -- The timer in a slot, and where a slot leads.
   abbrev pub held_at : List (Slot T V) → ℕ → Option (Armed T V)
   held_at slots k = slice_index_or (helds slots) k None
-
-  abbrev pub due_at : List (Slot T V) → ℕ → Option (Due T)
-  due_at slots k = slice_index_or (dues slots) k None
 
   abbrev pub link_at : List (Slot T V) → ℕ → ℕ
   link_at slots k = slice_index_or (links slots) k 0
@@ -36,10 +30,8 @@ module _ {T V : Type 0} where
   own_due k None = None
   own_due k (Some a) = Some (record { at = a.at; turn = a.turn; slot = k })
 
-  -- The first n places are taken, each by a timer that stands in its slot, which leads back to the place; and so each timer has its place.
-  pub record IsIndexed (held : ℕ → Option (Armed T V)) (due : ℕ → Option (Due T)) (link : ℕ → ℕ) (n : ℕ) : Type 0 where
-    pub taken : (k : ℕ) → k < n → IsSome (due k)
-    pub free : (k : ℕ) → n ≤ k → due k ≡ None
+  -- What stands at a place is a timer that stands in its slot, which leads back to the place; and so each timer has its place.
+  pub record IsIndexed (held : ℕ → Option (Armed T V)) (due : ℕ → Option (Due T)) (link : ℕ → ℕ) : Type 0 where
     pub named : (k : ℕ) (d : Due T) → due k ≡ Some d → (own_due d.slot (held d.slot) ≡ Some d) × (link d.slot ≡ k)
     pub placed : (k : ℕ) (a : Armed T V) → held k ≡ Some a → due (link k) ≡ own_due k (Some a)
 
@@ -67,12 +59,6 @@ module _ {T : Type 0} (cmp : T → T → Ordering) where
   IsAtMost None (Some b) = ⊥
   IsAtMost (Some a) (Some b) = due_first cmp a.at a.turn b.at b.turn ≡ true
 
-  -- Of what was found, and where, and what stands at place k: that which is due first, and where.
-  abbrev pub earlier_found : Option (ℕ × Due T) → ℕ → Option (Due T) → Option (ℕ × Due T)
-  earlier_found found k None = found
-  earlier_found None k (Some b) = Some (k, b)
-  earlier_found (Some a) k (Some b) = if due_first cmp a.1.at a.1.turn b.at b.turn then Some a else Some (k, b)
-
   -- What stands at a place is due after nothing below it.
   abbrev pub IsOrdered : (ℕ → Option (Due T)) → Type 0
   IsOrdered due = (j k : ℕ) → IsAbove j k → IsAtMost (due j) (due k)
@@ -89,6 +75,11 @@ module _ {T : Type 0} (cmp : T → T → Ordering) where
   abbrev pub IsOver : (ℕ → Option (Due T)) → ℕ → Due T → Type 0
   IsOver due p d = (k : ℕ) → IsAbove p k → IsAtMost (Some d) (due k)
 
+  -- At place p, of those from one place to before another one, stands what is due first.
+  pub record IsFirstOf (due : ℕ → Option (Due T)) (from to p : ℕ) : Type 0 where
+    pub within : (from ≤ p) × (p < to)
+    pub first : (k : ℕ) → from ≤ k → k < to → IsAtMost (due p) (due k)
+
   -- At place k, right below place p, stands d, and nothing below p is due before it.
   pub record IsFirstBelow (due : ℕ → Option (Due T)) (p k : ℕ) (d : Due T) : Type 0 where
     pub below : IsAbove p k
@@ -96,25 +87,26 @@ module _ {T : Type 0} (cmp : T → T → Ordering) where
     pub first : IsOver due p d
 
 module _ {T V : Type 0} (cmp : T → T → Ordering) where
-  -- The slots are a heap of their timers.
-  pub record IsHeap (slots : List (Slot T V)) : Type 0 where
-    pub indexed : IsIndexed (held_at slots) (due_at slots) (link_at slots) (count_by is_some (helds slots))
-    pub ordered : IsOrdered cmp (due_at slots)
+  -- The places are a heap of the timers in the slots.
+  pub record IsHeap (slots : List (Slot T V)) (heap : List (Due T)) : Type 0 where
+    pub indexed : IsIndexed (held_at slots) (slice_get heap) (link_at slots)
+    pub ordered : IsOrdered cmp (slice_get heap)
 
   -- They are one, but for the order at place p, once d stands there.
-  pub record IsOpen (slots : List (Slot T V)) (p : ℕ) (d : Due T) : Type 0 where
-    pub place : p < length slots
+  pub record IsOpen (slots : List (Slot T V)) (heap : List (Due T)) (p : ℕ) (d : Due T) : Type 0 where
+    pub place : p < length heap
     pub slot : d.slot < length slots
-    pub indexed : IsIndexed (held_at slots) (put_at (due_at slots) p (Some d)) (put_at (link_at slots) d.slot p) (count_by is_some (helds slots))
-    pub ordered : IsOrderedBut cmp (due_at slots) p
+    pub indexed : IsIndexed (held_at slots) (put_at (slice_get heap) p (Some d)) (put_at (link_at slots) d.slot p)
+    pub ordered : IsOrderedBut cmp (slice_get heap) p
 
-  -- The slots are a heap; so many hold a timer; each of these has a number and a turn below this one, and a turn of its own; and the others are listed from this slot on.
-  pub record IsSound (slots : List (Slot T V)) (len next_number vacant : ℕ) : Type 0 where
-    pub heap : IsHeap slots
-    pub counted : len ≡ count_by is_some (helds slots)
+  -- The places are a heap of the timers, of which there are as many; each of these has a number and a turn below this one, and a turn of its own; and the slots
+  -- that hold none are listed from this one on.
+  pub record IsSound (slots : List (Slot T V)) (heap : List (Due T)) (next_number vacant : ℕ) : Type 0 where
+    pub heaped : IsHeap slots heap
+    pub counted : length heap ≡ count_by is_some (helds slots)
     pub given_out : IsGivenOut (helds slots) next_number
     pub vacancies : ℕ
-    pub total : len + vacancies ≡ length slots
+    pub total : length heap + vacancies ≡ length slots
     pub listed : IsVacantList (helds slots) (links slots) vacancies vacant
 
   -- The slot that is named holds the timer that comes out first.

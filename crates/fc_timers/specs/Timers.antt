@@ -39,6 +39,10 @@ module _ {T V : Type 0} where
   abbrev pub value_of : (T × ℕ) × (Timer × V) → V
   value_of e = e.1.1
 
+  -- An entry without its turn.
+  abbrev pub turnless : (T × ℕ) × (Timer × V) → Timer × T × V
+  turnless e = (timer_of e, time_of e, value_of e)
+
   -- The entry of a timer, and none where it is not in the list.
   abbrev pub found : List ((T × ℕ) × (Timer × V)) → Timer → Option ((T × ℕ) × (Timer × V))
   found s timer = find (λ e. is_same (timer_of e) timer) s
@@ -46,6 +50,10 @@ module _ {T V : Type 0} where
   -- The list without the entry of a timer.
   abbrev pub without : List ((T × ℕ) × (Timer × V)) → Timer → List ((T × ℕ) × (Timer × V))
   without s timer = filter (λ e. not (is_same (timer_of e) timer)) s
+
+  -- No two entries have one turn: each is the first that is found by its turn.
+  abbrev pub HaveTurnsApart : List ((T × ℕ) × (Timer × V)) → Type 0
+  HaveTurnsApart s = All (λ e. find (λ other. turn_of other == turn_of e) s ≡ Some e) s
 
   -- A timer that came out or was cancelled: one whose first turn was given out, and that is not found.
   abbrev pub IsGone : Queue T V → Timer → Type 0

@@ -1,151 +1,233 @@
-//! The heap among the slots: what stands at a place is due before what stands below it, so the first of all stands at place 0. The slot of each timer leads to
-//! its place, from where it can be taken out, or moved once its time is another.
-ghost use Rattle.std.specs.Prelude.{◌≡◌, ◌+◌, ◌*◌, ◌-◌, ◌/◌, ℕ, ◌<◌, IsSome, Some, None, IfSome, IfNone, is_some, count_by, length, slice_index_or, slice_set};
-ghost use Rattle.fc_timers.specs.Heap.{AreVacantKept, earlier_found, IsFirstBelow, IsHeap, IsOpen, IsAbove, IsAtMost, IsOver, IsUnder, due_at as due_in, dues, held_at, helds, link_at as link_in, links};
+//! The heap of the timers, in a list of its own: what stands at a place is due before what stands below it, so the first of all stands at place 0. The slot
+//! of each timer leads to its place, from where it can be taken out, or moved once its time is another.
+ghost use Rattle.std.specs.Prelude.{◌≡◌, ◌+◌, ℕ, ◌<◌, ◌≤◌, ◌∷◌, ◌++◌, ◌⊎◌, [], IsSome, List, Some, None, IfSome, IfNone, length, slice_get, slice_index_or, slice_set};
+ghost use Rattle.fc_timers.specs.Heap.{AreVacantKept, IsAbove, IsAtMost, IsFirstBelow, IsFirstOf, IsHeap, IsOpen, IsOver, IsUnder, held_at, helds, link_at as link_in, links};
 ghost use Rattle.fc_timers.specs.Slotted.{renewed};
+ghost use Rattle.fc_timers.specs.declared.slot.Due.{Due as Standing};
 
 use crate::order::precedes;
 use crate::slot::{Due, Slot};
 use crate::timer::Armed;
 use std::mem;
 
-// What stands at a place, and none after the end.
-fn due_at<T: Copy, V>(slots: &[Slot<T, V>], place: usize) -> Option<Due<T>>
-    ensures { result ≡ due_in slots.now place }
+// Of two places that where the one stands that is due first.
+fn earlier_of<T: Ord>(heap: &[Due<T>], one: usize, other: usize) -> usize
+    requires one { one < length heap.now }
+    requires other { other < length heap.now }
+    ensures found { (result ≡ one) ⊎ (result ≡ other) }
+    ensures before_one { IsAtMost T.cmp (slice_get heap.now result) (slice_get heap.now one) }
+    ensures before_other { IsAtMost T.cmp (slice_get heap.now result) (slice_get heap.now other) }
 {
-    match slots.get(place) {
-        Some(slot) => slot.due,
-        None => None,
+    if precedes(&heap[one], &heap[other]) {
+        one
+    } else {
+        other
     }
 }
 
-// What stands above a place, where it is due after this one.
-fn later_above<T: Ord + Copy, V>(slots: &[Slot<T, V>], place: usize, due: &Due<T>) -> Option<Due<T>>
-    ensures later { IfSome result (λ other. IsAtMost T.cmp (Some due.now) (Some other)) }
-    ensures above { IfSome result (λ other. (0 < place) × (due_in slots.now ((place - 1) / 4) ≡ Some other)) }
-    ensures none { IfNone result ((d : Due T) → 0 < place → due_in slots.now ((place - 1) / 4) ≡ Some d → IsAtMost T.cmp (Some d) (Some due.now)) }
+// Where the first stands of what stands from a place on, of which there are fewer than four.
+fn first_of_few<T: Ord>(heap: &[Due<T>], from: usize) -> Option<usize>
+    requires { length heap.now < from + 4 }
+    ensures first { IfSome result (λ place. IsFirstOf T.cmp (slice_get heap.now) from (length heap.now) place) }
+    ensures none { IfNone result (length heap.now ≤ from) }
+{
+    if heap.len() <= from {
+        return None;
+    }
+    if heap.len() == from + 1 {
+        return Some(from);
+    }
+    let one = earlier_of(heap, from, from + 1);
+    if heap.len() == from + 2 {
+        return Some(one);
+    }
+    Some(earlier_of(heap, one, from + 2))
+}
+
+// Where the first stands of what stands right below a place.
+fn first_below<T: Ord>(heap: &[Due<T>], place: usize) -> Option<usize>
+    requires { place < length heap.now }
+    ensures first { IfSome result (λ below. (d : Standing T) × IsFirstBelow T.cmp (slice_get heap.now) place below d) }
+    ensures none { IfNone result ((k : ℕ) → IsAbove place k → slice_get heap.now k ≡ None) }
+{
+    let first = 4 * place + 1;
+    if heap.len() < first + 4 {
+        return first_of_few(heap, first);
+    }
+    let one = earlier_of(heap, first, first + 1);
+    let other = earlier_of(heap, first + 2, first + 3);
+    Some(earlier_of(heap, one, other))
+}
+
+// The same, where that is due before this one.
+fn earlier_below<T: Ord>(heap: &[Due<T>], place: usize, due: &Due<T>) -> Option<usize>
+    requires { place < length heap.now }
+    ensures first { IfSome result (λ below. (d : Standing T) × IsFirstBelow T.cmp (slice_get heap.now) place below d × IsAtMost T.cmp (Some d) (Some due.now)) }
+    ensures none { IfNone result (IsOver T.cmp (slice_get heap.now) place due.now) }
+{
+    let below = first_below(heap, place)?;
+    if precedes(due, &heap[below]) {
+        None
+    } else {
+        Some(below)
+    }
+}
+
+// The place above this one, where what stands there is due after this.
+fn later_above<T: Ord>(heap: &[Due<T>], place: usize, due: &Due<T>) -> Option<usize>
+    requires { place < length heap.now }
+    ensures above { IfSome result (λ above. IsAbove above place) }
+    ensures later { IfSome result (λ above. IsAtMost T.cmp (Some due.now) (slice_get heap.now above)) }
+    ensures none { IfNone result (IsUnder T.cmp (slice_get heap.now) place due.now) }
 {
     if place == 0 {
         return None;
     }
-    let other = due_at(slots, (place - 1) / 4)?;
-    if precedes(&other, due) {
+    let above = (place - 1) / 4;
+    if precedes(&heap[above], due) {
         None
     } else {
-        Some(other)
+        Some(above)
     }
 }
 
-// What was found, or what stands at a place, where that is due before it.
-fn earlier_of<T: Ord + Copy, V>(
-    slots: &[Slot<T, V>],
-    found: Option<(usize, Due<T>)>,
-    place: usize,
-) -> Option<(usize, Due<T>)>
-    ensures { result ≡ earlier_found T.cmp found place (due_in slots.now place) }
+// Has a slot lead to a place, or to another slot.
+fn lead<T, V>(slots: &mut [Slot<T, V>], slot: usize, next: usize)
+    requires { slot < length slots.old }
+    ensures held { helds slots.new ≡ helds slots.old }
+    ensures link { links slots.new ≡ slice_set (links slots.old) slot next }
 {
-    match (found, due_at(slots, place)) {
-        (Some((at, a)), Some(b)) => {
-            if precedes(&a, &b) {
-                Some((at, a))
-            } else {
-                Some((place, b))
-            }
-        }
-        (None, Some(b)) => Some((place, b)),
-        (found, None) => found,
-    }
+    slots[slot].link = next;
 }
 
-// The first of what stands right below a place, and where.
-fn first_below<T: Ord + Copy, V>(slots: &[Slot<T, V>], place: usize) -> Option<(usize, Due<T>)>
-    ensures first { IfSome result (λ found. IsFirstBelow T.cmp (due_in slots.now) place found.0 found.1) }
-    ensures none { IfNone result ((k : ℕ) → IsAbove place k → due_in slots.now k ≡ None) }
+// Puts what stands at one place at another one, to which its slot leads then.
+fn shift<T: Copy, V>(slots: &mut [Slot<T, V>], heap: &mut [Due<T>], from: usize, to: usize)
+    requires from { from < length heap.old }
+    requires slot { (d : Standing T) → slice_get heap.old from ≡ Some d → d.slot < length slots.old }
+    requires to { to < length heap.old }
+    ensures held { helds slots.new ≡ helds slots.old }
+    ensures due { (d : Standing T) → slice_get heap.old from ≡ Some d → heap.new ≡ slice_set heap.old to d }
+    ensures link { (d : Standing T) → slice_get heap.old from ≡ Some d → links slots.new ≡ slice_set (links slots.old) d.slot to }
 {
-    if slots.len() / 4 < place {
-        return None;
-    }
-    let first = 4 * place + 1;
-    let of_one = earlier_of(slots, None, first);
-    let of_two = earlier_of(slots, of_one, first + 1);
-    let of_three = earlier_of(slots, of_two, first + 2);
-    earlier_of(slots, of_three, first + 3)
-}
-
-// The same, where that is due before this one.
-fn earlier_below<T: Ord + Copy, V>(
-    slots: &[Slot<T, V>],
-    place: usize,
-    due: &Due<T>,
-) -> Option<(usize, Due<T>)>
-    ensures first { IfSome result (λ found. IsFirstBelow T.cmp (due_in slots.now) place found.0 found.1) }
-    ensures earlier { IfSome result (λ found. IsAtMost T.cmp (Some found.1) (Some due.now)) }
-    ensures none { IfNone result (IsOver T.cmp (due_in slots.now) place due.now) }
-{
-    let (below, other) = first_below(slots, place)?;
-    if precedes(due, &other) {
-        None
-    } else {
-        Some((below, other))
-    }
+    lead(slots, heap[from].slot, to);
+    heap[to] = heap[from];
 }
 
 // Puts what is due at a place, to which its slot leads then.
-fn set_place<T: Copy, V>(slots: &mut [Slot<T, V>], place: usize, due: Due<T>)
-    requires place { place < length slots.old }
+fn set_place<T: Copy, V>(slots: &mut [Slot<T, V>], heap: &mut [Due<T>], place: usize, due: Due<T>)
+    requires place { place < length heap.old }
     requires slot { due.slot < length slots.old }
     ensures held { helds slots.new ≡ helds slots.old }
-    ensures due { dues slots.new ≡ slice_set (dues slots.old) place (Some due) }
+    ensures due { heap.new ≡ slice_set heap.old place due }
     ensures link { links slots.new ≡ slice_set (links slots.old) due.slot place }
 {
-    slots[due.slot].link = place;
-    slots[place].due = Some(due);
+    lead(slots, due.slot, place);
+    heap[place] = due;
 }
 
 // Has what stands above a place and is due after this one come down, one after another, and answers the place that the last one left.
-fn rise<T: Ord + Copy, V>(slots: &mut [Slot<T, V>], place: usize, due: &Due<T>) -> usize
-    requires { IsOpen T.cmp slots.old place due.now }
+fn rise<T: Ord + Copy, V>(
+    slots: &mut [Slot<T, V>],
+    heap: &mut [Due<T>],
+    place: usize,
+    due: &Due<T>,
+) -> usize
+    requires { IsOpen T.cmp slots.old heap.old place due.now }
     ensures held { helds slots.new ≡ helds slots.old }
     ensures vacant { AreVacantKept slots.new (links slots.old) }
-    ensures gap { IsOpen T.cmp slots.new result due.now }
-    ensures under { IsUnder T.cmp (due_in slots.new) result due.now }
+    ensures len { length heap.new ≡ length heap.old }
+    ensures gap { IsOpen T.cmp slots.new heap.new result due.now }
+    ensures under { IsUnder T.cmp (slice_get heap.new) result due.now }
+    ensures over { (result < place) ⊎ IsOver T.cmp (slice_get heap.old) place due.now → IsOver T.cmp (slice_get heap.new) result due.now }
 {
     let mut place = place;
-    'up: while let Some(other) = later_above(slots, place, due) {
-        set_place(slots, place, other);
-        place = (place - 1) / 4;
+    'up: while let Some(above) = later_above(heap, place, due) {
+        shift(slots, heap, above, place);
+        place = above;
     }
     place
 }
 
 // Has what stands below a place and is due before this one go up, one after another, and answers the place that the last one left.
-fn sink<T: Ord + Copy, V>(slots: &mut [Slot<T, V>], place: usize, due: &Due<T>) -> usize
-    requires gap { IsOpen T.cmp slots.old place due.now }
-    requires under { IsUnder T.cmp (due_in slots.old) place due.now }
+fn sink<T: Ord + Copy, V>(
+    slots: &mut [Slot<T, V>],
+    heap: &mut [Due<T>],
+    place: usize,
+    due: &Due<T>,
+) -> usize
+    requires gap { IsOpen T.cmp slots.old heap.old place due.now }
+    requires under { IsUnder T.cmp (slice_get heap.old) place due.now }
     ensures held { helds slots.new ≡ helds slots.old }
     ensures vacant { AreVacantKept slots.new (links slots.old) }
-    ensures gap { IsOpen T.cmp slots.new result due.now }
-    ensures under { IsUnder T.cmp (due_in slots.new) result due.now }
-    ensures over { IsOver T.cmp (due_in slots.new) result due.now }
+    ensures len { length heap.new ≡ length heap.old }
+    ensures gap { IsOpen T.cmp slots.new heap.new result due.now }
+    ensures under { IsUnder T.cmp (slice_get heap.new) result due.now }
+    ensures over { IsOver T.cmp (slice_get heap.new) result due.now }
 {
     let mut place = place;
-    'down: while let Some((below, other)) = earlier_below(slots, place, due) {
-        set_place(slots, place, other);
+    'down: while let Some(below) = earlier_below(heap, place, due) {
+        shift(slots, heap, below, place);
         place = below;
     }
     place
 }
 
-// Puts what is due at a place, or further up or down, where it belongs.
-fn settle<T: Ord + Copy, V>(slots: &mut [Slot<T, V>], place: usize, due: Due<T>)
-    requires { IsOpen T.cmp slots.old place due }
+// Has the first of what stands below a place go up, one after another, and answers the place that the last one left, below which nothing stands. What
+// is put there mostly stays there or near: so it is compared on its way up, and not at each step down.
+fn lift<T: Ord + Copy, V>(slots: &mut [Slot<T, V>], heap: &mut [Due<T>], place: usize) -> usize
+    requires { (d : Standing T) × IsOpen T.cmp slots.old heap.old place d }
     ensures held { helds slots.new ≡ helds slots.old }
     ensures vacant { AreVacantKept slots.new (links slots.old) }
-    ensures heap { IsHeap T.cmp slots.new }
+    ensures len { length heap.new ≡ length heap.old }
+    ensures gap { (d : Standing T) → IsOpen T.cmp slots.old heap.old place d → IsOpen T.cmp slots.new heap.new result d }
+    ensures last { (k : ℕ) → IsAbove result k → slice_get heap.new k ≡ None }
 {
-    let risen = rise(slots, place, &due);
-    let settled = sink(slots, risen, &due);
-    set_place(slots, settled, due);
+    let mut place = place;
+    'down: while let Some(below) = first_below(heap, place) {
+        shift(slots, heap, below, place);
+        place = below;
+    }
+    place
+}
+
+// Puts what is due at a place below which nothing is due before it, or further up, where it belongs.
+fn settle_up<T: Ord + Copy, V>(
+    slots: &mut [Slot<T, V>],
+    heap: &mut [Due<T>],
+    place: usize,
+    due: Due<T>,
+)
+    requires gap { IsOpen T.cmp slots.old heap.old place due }
+    requires over { IsOver T.cmp (slice_get heap.old) place due }
+    ensures held { helds slots.new ≡ helds slots.old }
+    ensures vacant { AreVacantKept slots.new (links slots.old) }
+    ensures len { length heap.new ≡ length heap.old }
+    ensures heap { IsHeap T.cmp slots.new heap.new }
+{
+    let risen = rise(slots, heap, place, &due);
+    set_place(slots, heap, risen, due);
+}
+
+// Puts what is due at a place, or further up or down, where it belongs.
+fn settle<T: Ord + Copy, V>(
+    slots: &mut [Slot<T, V>],
+    heap: &mut [Due<T>],
+    place: usize,
+    due: Due<T>,
+)
+    requires { IsOpen T.cmp slots.old heap.old place due }
+    ensures held { helds slots.new ≡ helds slots.old }
+    ensures vacant { AreVacantKept slots.new (links slots.old) }
+    ensures len { length heap.new ≡ length heap.old }
+    ensures heap { IsHeap T.cmp slots.new heap.new }
+{
+    let risen = rise(slots, heap, place, &due);
+    if risen < place {
+        set_place(slots, heap, risen, due);
+    } else {
+        let sunk = sink(slots, heap, risen, &due);
+        set_place(slots, heap, sunk, due);
+    }
 }
 
 // Has a slot hold a timer or none, and answers what it held.
@@ -157,34 +239,34 @@ fn hold<T, V>(
     requires { slot < length slots.old }
     ensures was { result ≡ held_at slots.old slot }
     ensures held { helds slots.new ≡ slice_set (helds slots.old) slot held }
-    ensures due { dues slots.new ≡ dues slots.old }
     ensures link { links slots.new ≡ links slots.old }
 {
     mem::replace(&mut slots[slot].held, held)
 }
 
-/// Puts a timer into a slot where none stands, beside so many others.
+/// Puts a timer into a slot where none stands, and into the heap, at the end of which a place is made for it.
 pub(crate) fn put<T: Ord + Copy, V: Drop>(
     slots: &mut [Slot<T, V>],
+    heap: &mut [Due<T>],
     slot: usize,
     armed: Armed<T, V>,
-    others: usize,
 )
     requires within { slot < length slots.old }
     requires vacant { held_at slots.old slot ≡ None }
-    requires others { others ≡ count_by is_some (helds slots.old) }
-    requires heap { IsHeap T.cmp slots.old }
+    requires heap { (others : List (Standing T)) × (last : Standing T) × (heap.old ≡ others ++ last ∷ []) × IsHeap T.cmp slots.old others }
     ensures held { helds slots.new ≡ slice_set (helds slots.old) slot (Some armed) }
     ensures vacant { AreVacantKept slots.new (links slots.old) }
-    ensures heap { IsHeap T.cmp slots.new }
+    ensures len { length heap.new ≡ length heap.old }
+    ensures heap { IsHeap T.cmp slots.new heap.new }
 {
     let due = Due {
         at: armed.at,
         turn: armed.turn,
         slot,
     };
+    let last = heap.len() - 1;
     hold(slots, slot, Some(armed));
-    settle(slots, others, due);
+    settle_up(slots, heap, last, due);
 }
 
 // Where a slot leads.
@@ -195,69 +277,40 @@ fn link_at<T, V>(slots: &[Slot<T, V>], slot: usize) -> usize
     slots[slot].link
 }
 
-// Has a slot lead to another one.
-fn lead<T, V>(slots: &mut [Slot<T, V>], slot: usize, next: usize)
+// Takes the timer out of a slot, which leads to another slot then.
+fn vacate<T, V>(slots: &mut [Slot<T, V>], slot: usize, next_vacant: usize) -> Option<Armed<T, V>>
     requires { slot < length slots.old }
-    ensures held { helds slots.new ≡ helds slots.old }
-    ensures due { dues slots.new ≡ dues slots.old }
-    ensures link { links slots.new ≡ slice_set (links slots.old) slot next }
-{
-    slots[slot].link = next;
-}
-
-// Takes out what stands at the last place.
-fn take_last<T: Copy, V>(slots: &mut [Slot<T, V>], last: usize) -> Option<Due<T>>
-    requires { last < length slots.old }
-    ensures was { result ≡ due_in slots.old last }
-    ensures held { helds slots.new ≡ helds slots.old }
-    ensures due { dues slots.new ≡ slice_set (dues slots.old) last None }
-    ensures link { links slots.new ≡ links slots.old }
-{
-    mem::replace(&mut slots[last].due, None)
-}
-
-// Takes the timer out of a slot, which leads to another slot then, and what stands at the last place.
-fn vacate<T: Copy, V>(
-    slots: &mut [Slot<T, V>],
-    slot: usize,
-    last: usize,
-    next_vacant: usize,
-) -> (Option<Armed<T, V>>, Option<Due<T>>)
-    requires slot { slot < length slots.old }
-    requires last { last < length slots.old }
-    ensures armed { result.0 ≡ held_at slots.old slot }
-    ensures last { result.1 ≡ due_in slots.old last }
+    ensures armed { result ≡ held_at slots.old slot }
     ensures held { helds slots.new ≡ slice_set (helds slots.old) slot None }
-    ensures due { dues slots.new ≡ slice_set (dues slots.old) last None }
     ensures link { links slots.new ≡ slice_set (links slots.old) slot next_vacant }
 {
     let armed = hold(slots, slot, None);
     lead(slots, slot, next_vacant);
-    let due = take_last(slots, last);
-    (armed, due)
+    armed
 }
 
-/// Takes the timer out of a slot, beside so many others. The slot leads to another slot then.
+/// Takes the timer out of a slot, which leads to another slot then. What stood at the last place of the heap has been taken out of it, and is put where
+/// it belongs.
 pub(crate) fn take<T: Ord + Copy, V>(
     slots: &mut [Slot<T, V>],
+    heap: &mut [Due<T>],
+    last: Due<T>,
     slot: usize,
-    others: usize,
     next_vacant: usize,
 ) -> Option<Armed<T, V>>
     requires held { IsSome (held_at slots.old slot) }
-    requires others { others + 1 ≡ count_by is_some (helds slots.old) }
-    requires heap { IsHeap T.cmp slots.old }
+    requires heap { IsHeap T.cmp slots.old (heap.old ++ last ∷ []) }
     ensures was { result ≡ held_at slots.old slot }
     ensures held { helds slots.new ≡ slice_set (helds slots.old) slot None }
     ensures vacant { AreVacantKept slots.new (slice_set (links slots.old) slot next_vacant) }
-    ensures heap { IsHeap T.cmp slots.new }
+    ensures len { length heap.new ≡ length heap.old }
+    ensures heap { IsHeap T.cmp slots.new heap.new }
 {
     let place = link_at(slots, slot);
-    let (armed, last) = vacate(slots, slot, others, next_vacant);
-    if place < others {
-        if let Some(due) = last {
-            settle(slots, place, due);
-        }
+    let armed = vacate(slots, slot, next_vacant);
+    if place < heap.len() {
+        let end = lift(slots, heap, place);
+        settle_up(slots, heap, end, last);
     }
     armed
 }
@@ -266,7 +319,6 @@ pub(crate) fn take<T: Ord + Copy, V>(
 fn write_time<T: Copy, V>(slots: &mut [Slot<T, V>], slot: usize, at: T, turn: u64)
     requires { slot < length slots.old }
     ensures held { helds slots.new ≡ slice_set (helds slots.old) slot (renewed at turn (slice_index_or (helds slots.old) slot None)) }
-    ensures due { dues slots.new ≡ dues slots.old }
     ensures link { links slots.new ≡ links slots.old }
 {
     if let Some(armed) = &mut slots[slot].held {
@@ -276,14 +328,21 @@ fn write_time<T: Copy, V>(slots: &mut [Slot<T, V>], slot: usize, at: T, turn: u6
 }
 
 /// Gives the timer of a slot another time and turn.
-pub(crate) fn retime<T: Ord + Copy, V>(slots: &mut [Slot<T, V>], slot: usize, at: T, turn: u64)
+pub(crate) fn retime<T: Ord + Copy, V>(
+    slots: &mut [Slot<T, V>],
+    heap: &mut [Due<T>],
+    slot: usize,
+    at: T,
+    turn: u64,
+)
     requires held { IsSome (held_at slots.old slot) }
-    requires heap { IsHeap T.cmp slots.old }
+    requires heap { IsHeap T.cmp slots.old heap.old }
     ensures held { helds slots.new ≡ slice_set (helds slots.old) slot (renewed at turn (slice_index_or (helds slots.old) slot None)) }
     ensures vacant { AreVacantKept slots.new (links slots.old) }
-    ensures heap { IsHeap T.cmp slots.new }
+    ensures len { length heap.new ≡ length heap.old }
+    ensures heap { IsHeap T.cmp slots.new heap.new }
 {
     let place = link_at(slots, slot);
     write_time(slots, slot, at, turn);
-    settle(slots, place, Due { at, turn, slot });
+    settle(slots, heap, place, Due { at, turn, slot });
 }

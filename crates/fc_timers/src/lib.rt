@@ -5,6 +5,7 @@ mod heap;
 mod order;
 pub mod queue;
 pub mod reschedule_error;
+mod room;
 mod slot;
 mod slots;
 pub mod timer;

@@ -7,7 +7,14 @@ ghost use Rattle.fc_base.specs.declared.try_reserve_error.TryReserveError.{TryRe
 ghost use Rattle.fc_base.specs.Growth.{append_error};
 ghost use Rattle.fc_base.specs.OneKey.{put};
 ghost use Rattle.fc_timers.specs.declared.reschedule_error.RescheduleError.{RescheduleError as Refusal};
-ghost use Rattle.fc_timers.specs.Timers.{GivenTimer, HandsInTurn, IsInOrder, NoneDue, by_time_then_turn, due_after, due_by, first_turn, found, time_of, value_of, without};
+ghost use Rattle.fc_timers.specs.Timers.{GivenTimer, HandsInTurn, HaveTurnsApart, IsInOrder, NoneDue, by_time_then_turn, due_after, due_by, first_turn, found, time_of, value_of, without};
+
+mod copy;
+mod debug;
+pub mod into_iter;
+pub mod iter;
+mod pop_first;
+mod value;
 
 use crate::reschedule_error::RescheduleError;
 use crate::slots::Slots;
@@ -17,8 +24,8 @@ use std::alloc::Global;
 use std::marker::Model;
 
 /// Timers with their times and values, which come out in the order of their times, and those of equal times in the order in which they were
-/// put there. A call takes a number of steps that grows with the logarithm of the most timers that the queue held at once. Only `try_insert`,
-/// `try_with_capacity` and `try_reserve` take memory.
+/// put there. A call takes a number of steps that grows with the logarithm of the number of timers. Only `try_insert`, `try_with_capacity` and
+/// `try_reserve` take memory.
 #[derive(Drop)]
 pub struct TimerQueue<T: Ord, V, A: Handle = Global> {
     slots: Slots<T, V, A>,
@@ -61,6 +68,7 @@ impl<T: Ord, V, A: Handle> TimerQueue<T, V, A> {
     pub fn len(&self) -> usize
         ensures value { result ≡ length self.now.timers }
         ensures in_order { IsInOrder T.cmp self.now }
+        ensures turns { HaveTurnsApart self.now.timers }
     {
         self.slots.len()
     }
@@ -99,7 +107,8 @@ impl<T: Ord, V, A: Handle> TimerQueue<T, V, A> {
 
     /// The timer's time and its value. `None` where it is not in the queue: it came out, or was cancelled.
     pub fn get(&self, timer: Timer) -> Option<(&T, &V)>
-        ensures { option_map deref_pair result ≡ option_map (λ e. (time_of e, value_of e)) (found self.now.timers timer) }
+        ensures answer { option_map deref_pair result ≡ option_map (λ e. (time_of e, value_of e)) (found self.now.timers timer) }
+        ensures in_order { IsInOrder T.cmp self.now }
     {
         let armed = self.slots.get(timer)?;
         Some((&armed.at, &armed.value))
@@ -107,14 +116,16 @@ impl<T: Ord, V, A: Handle> TimerQueue<T, V, A> {
 
     /// Whether the timer is in the queue: it did not come out, and was not cancelled.
     pub fn contains(&self, timer: Timer) -> bool
-        ensures { result ≡ is_some (found self.now.timers timer) }
+        ensures answer { result ≡ is_some (found self.now.timers timer) }
+        ensures in_order { IsInOrder T.cmp self.now }
     {
         self.slots.contains(timer)
     }
 
     /// The time of the timer that comes out next: none is due before it. `None` where there is no timer.
     pub fn next_deadline(&self) -> Option<&T>
-        ensures { option_copied result ≡ option_map time_of (slice_get self.now.timers 0) }
+        ensures answer { option_copied result ≡ option_map time_of (slice_get self.now.timers 0) }
+        ensures in_order { IsInOrder T.cmp self.now }
     {
         self.slots.next_deadline()
     }
@@ -124,6 +135,7 @@ impl<T: Ord, V, A: Handle> TimerQueue<T, V, A> {
         ensures first { IfSome result (λ f. (turn : ℕ) × (slice_get self.now.timers 0 ≡ Some ((f.1.now, turn), (f.0, f.2.now)))) }
         ensures due { IfSome result (λ f. is_le (T.cmp f.1.now now.now) ≡ true) }
         ensures none { IfNone result (NoneDue T.cmp self.now.timers now.now) }
+        ensures in_order { IsInOrder T.cmp self.now }
     {
         self.slots.first_due(now)
     }
@@ -166,6 +178,7 @@ impl<T: Ord + Copy + Drop, V: Drop, A: Handle> TimerQueue<T, V, A> {
         ensures back { IfErr result (λ e. (e.0 ≡ at) × (e.1 ≡ value)) }
         ensures error { IfErr result (λ e. e.2 ≡ (if self.old.next_turn == u64.MAX then Error.CapacityOverflow else Error.AllocError)) }
         ensures used_up { self.old.next_turn ≡ u64.MAX → IsErr result }
+        ensures in_order { IsInOrder T.cmp self.old }
     {
         self.slots.try_insert(at, value)
     }
@@ -178,6 +191,7 @@ impl<T: Ord + Copy + Drop, V: Drop, A: Handle> TimerQueue<T, V, A> {
         ensures turn { self.new.next_turn ≡ self.old.next_turn }
         ensures room { self.new.room ≡ self.old.room }
         ensures unchanged { IfNone result (self.new ≡ self.old) }
+        ensures in_order { IsInOrder T.cmp self.old }
     {
         let armed = self.slots.cancel(timer)?;
         Some((armed.at, armed.value))
@@ -222,6 +236,7 @@ impl<T: Ord + Copy + Drop, V: Drop, A: Handle> TimerQueue<T, V, A> {
         ensures error { IfErr result (λ e. e ≡ (if is_some (found self.old.timers timer) then Refusal.UsedUp else Refusal.Gone)) }
         ensures used_up { self.old.next_turn ≡ u64.MAX → IsErr result }
         ensures unchanged { OnErr result (self.new ≡ self.old) }
+        ensures in_order { IsInOrder T.cmp self.old }
     {
         self.slots.reschedule(timer, at)
     }
@@ -235,6 +250,7 @@ impl<T: Ord + Copy + Drop, V: Drop, A: Handle> TimerQueue<T, V, A> {
         ensures turn { self.new.next_turn ≡ self.old.next_turn }
         ensures room { self.new.room ≡ self.old.room }
         ensures unchanged { IfNone result (self.new ≡ self.old) }
+        ensures in_order { IsInOrder T.cmp self.old }
     {
         let (timer, armed) = self.slots.pop_due(now)?;
         Some((timer, armed.at, armed.value))
@@ -248,6 +264,7 @@ impl<T: Ord + Copy + Drop, V: Drop, A: Handle> TimerQueue<T, V, A> {
         ensures handed { (last : F) × HandsInTurn (GivenTimer F.FnMut) f (due_by T.cmp self.old.timers now.now) last }
         ensures turn { self.new.next_turn ≡ self.old.next_turn }
         ensures room { self.new.room ≡ self.old.room }
+        ensures in_order { IsInOrder T.cmp self.old }
     {
         'due: while let Some((timer, at, value)) = self.pop_due(now) {
             f(timer, at, value);

@@ -10,18 +10,25 @@ ghost use Rattle.fc_timers.specs.declared.reschedule_error.RescheduleError.{Resc
 ghost use Rattle.fc_timers.specs.declared.timer.Armed.{Armed as Held};
 ghost use Rattle.fc_timers.specs.declared.timer.Timer.{Timer as Key};
 
+mod copy;
+mod pop_first;
+mod row;
+mod value;
+
 use crate::heap::{put, retime, take};
 use crate::reschedule_error::RescheduleError;
+use crate::room::{reserve_both, shrink_both};
 use crate::slot::{Due, Slot};
 use crate::timer::{Armed, Timer};
 use fc_base::{Handle, TryReserveError};
 use std::marker::Model;
 
-/// Slots for timers, of which a heap among them tells the one that is due first.
+/// Slots for timers, and a heap that tells the one that is due first.
 #[derive(Drop)]
 pub(crate) struct Slots<T: Ord, V, A: Handle> {
     slots: Vec<Slot<T, V>, A>,
-    len: usize,
+    // What stands at each place of the heap, of which there are as many as timers. There is room for as many as slots.
+    heap: Vec<Due<T>, A>,
     // The number and the turn that are given out next.
     next_number: u64,
     // The first slot of the list of those where no timer stands, or a number that is no slot's.
@@ -31,13 +38,13 @@ pub(crate) struct Slots<T: Ord, V, A: Handle> {
 impl<T: Ord, V, A: Handle> Model for Slots<T, V, A> {
     ghost use Rattle.fc_timers.specs.Slotted.{Slotted};
     ghost use Rattle.fc_timers.specs.Heap.{helds, IsSound};
-    ghost use Rattle.std.specs.Prelude.{vec_capacity};
+    ghost use Rattle.std.specs.Prelude.{◌≤◌, length, min, vec_capacity};
 
     ghost Value = { Slotted T V };
 
-    ghost view = { λ q. record { slots = helds q.slots.items; next_number = q.next_number; room = vec_capacity q.slots } };
+    ghost view = { λ q. record { slots = helds q.slots.items; next_number = q.next_number; room = min (vec_capacity q.slots) (vec_capacity q.heap) } };
 
-    ghost invariant = { λ q. IsSound T.cmp q.slots.items q.len q.next_number q.vacant };
+    ghost invariant = { λ q. IsSound T.cmp q.slots.items q.heap.items q.next_number q.vacant × (length q.slots.items ≤ vec_capacity q.heap) };
 }
 
 impl<T: Ord, V, A: Handle> Slots<T, V, A> {
@@ -49,7 +56,7 @@ impl<T: Ord, V, A: Handle> Slots<T, V, A> {
     {
         Slots {
             slots: Vec::new(alloc),
-            len: 0,
+            heap: Vec::new(alloc),
             next_number: 0,
             vacant: usize::MAX,
         }
@@ -60,7 +67,7 @@ impl<T: Ord, V, A: Handle> Slots<T, V, A> {
         ensures value { result ≡ timer_count self.now }
         ensures given_out { AreGivenOut self.now }
     {
-        self.len
+        self.heap.len()
     }
 
     /// How many timers fit before the next request for memory.
@@ -68,7 +75,9 @@ impl<T: Ord, V, A: Handle> Slots<T, V, A> {
         ensures value { result ≡ self.now.room }
         ensures holds_all { timer_count self.now ≤ self.now.room }
     {
-        self.slots.capacity()
+        let slots = self.slots.capacity();
+        let places = self.heap.capacity();
+        if slots < places { slots } else { places }
     }
 
     /// Makes room for so many more timers: as many insertions then take no memory, and are not refused for want of it. Where they fit as it is, it takes
@@ -85,22 +94,26 @@ impl<T: Ord, V, A: Handle> Slots<T, V, A> {
         ensures unchanged { OnErr result (self.new ≡ self.old) }
         ensures error { IfErr result (λ e. e ≡ append_error (timer_count self.old) additional) }
     {
-        let vacant = self.slots.len() - self.len;
+        let vacant = self.slots.len() - self.heap.len();
         if additional <= vacant {
             return Ok(());
         }
-        if usize::MAX - self.len < additional {
+        if usize::MAX - self.heap.len() < additional {
             return Err(TryReserveError::CapacityOverflow);
         }
-        self.slots.reserve(additional - vacant)?;
-        Ok(())
+        reserve_both(
+            &mut self.slots,
+            additional - vacant,
+            &mut self.heap,
+            additional,
+        )
     }
 
     /// Whether there is no timer.
     pub(crate) fn is_empty(&self) -> bool
         ensures { IsTrue result ↔ (timer_count self.now ≡ 0) }
     {
-        self.len == 0
+        self.heap.is_empty()
     }
 
     /// The timer's time, turn and value. `None` where it is not in the queue: it came out, or was cancelled.
@@ -132,7 +145,7 @@ impl<T: Ord, V, A: Handle> Slots<T, V, A> {
         ensures room { self.new.room ≤ self.old.room }
         ensures frees { length self.old.slots ≡ 0 → self.new.room ≡ 0 }
     {
-        self.slots.shrink_to_fit();
+        shrink_both(&mut self.slots, &mut self.heap);
     }
 
     // The timer that stands in a slot.
@@ -176,10 +189,7 @@ impl<T: Ord, V, A: Handle> Slots<T, V, A> {
         ensures none { IfNone result (HasNone self.now × (timer_count self.now ≡ 0)) }
         ensures earliest { IfSome result (λ first. IsFirst T.cmp self.now first.now) }
     {
-        match self.slots.get(0) {
-            Some(slot) => slot.due.as_ref(),
-            None => None,
-        }
+        self.heap.get(0)
     }
 }
 
@@ -223,7 +233,7 @@ impl<T: Ord + Copy + Drop, V: Drop, A: Handle> Slots<T, V, A> {
         ensures unchanged { OnErr result (self.new ≡ self.old) }
         ensures error { IfErr result (λ e. e ≡ Error.AllocError) }
     {
-        if self.len < self.slots.len() {
+        if self.heap.len() < self.slots.len() {
             Ok(())
         } else {
             self.add_slot()
@@ -232,6 +242,7 @@ impl<T: Ord + Copy + Drop, V: Drop, A: Handle> Slots<T, V, A> {
 
     // Adds a slot, where no timer stands.
     fn add_slot(&mut self) -> Result<(), TryReserveError>
+        requires full { length self.old.slots ≡ timer_count self.old }
         ensures slots { OnOk result (self.new.slots ≡ self.old.slots ++ None ∷ []) }
         ensures number { self.new.next_number ≡ self.old.next_number }
         ensures room { self.old.room ≤ self.new.room }
@@ -240,10 +251,9 @@ impl<T: Ord + Copy + Drop, V: Drop, A: Handle> Slots<T, V, A> {
         ensures error { IfErr result (λ e. e ≡ Error.AllocError) }
     {
         let slot = self.slots.len();
-        self.slots.reserve(1)?;
+        reserve_both(&mut self.slots, 1, &mut self.heap, 1)?;
         self.slots.push_reserved(Slot {
             held: None,
-            due: None,
             link: self.vacant,
         });
         self.vacant = slot;
@@ -270,8 +280,17 @@ impl<T: Ord + Copy + Drop, V: Drop, A: Handle> Slots<T, V, A> {
             number,
             value,
         };
-        put(self.slots.as_mut_slice(), slot, armed, self.len);
-        self.len += 1;
+        self.heap.push_reserved(Due {
+            at,
+            turn: number,
+            slot,
+        });
+        put(
+            self.slots.as_mut_slice(),
+            self.heap.as_mut_slice(),
+            slot,
+            armed,
+        );
         self.next_number += 1;
         Timer { slot, number }
     }
@@ -299,8 +318,14 @@ impl<T: Ord + Copy + Drop, V: Drop, A: Handle> Slots<T, V, A> {
         ensures number { self.new.next_number ≡ self.old.next_number }
         ensures room { self.new.room ≡ self.old.room }
     {
-        self.len -= 1;
-        let armed = take(self.slots.as_mut_slice(), slot, self.len, self.vacant)?;
+        let last = self.heap.take_last();
+        let armed = take(
+            self.slots.as_mut_slice(),
+            self.heap.as_mut_slice(),
+            last,
+            slot,
+            self.vacant,
+        )?;
         self.vacant = slot;
         Some(armed)
     }
@@ -312,7 +337,7 @@ impl<T: Ord + Copy + Drop, V: Drop, A: Handle> Slots<T, V, A> {
         ensures room { self.new.room ≡ self.old.room }
     {
         self.slots.clear();
-        self.len = 0;
+        self.heap.clear();
         self.vacant = usize::MAX;
     }
 
@@ -348,7 +373,13 @@ impl<T: Ord + Copy + Drop, V: Drop, A: Handle> Slots<T, V, A> {
         ensures number { self.new.next_number ≡ self.old.next_number + 1 }
         ensures room { self.new.room ≡ self.old.room }
     {
-        retime(self.slots.as_mut_slice(), slot, at, self.next_number);
+        retime(
+            self.slots.as_mut_slice(),
+            self.heap.as_mut_slice(),
+            slot,
+            at,
+            self.next_number,
+        );
         self.next_number += 1;
     }
 

@@ -1,4 +1,5 @@
 //! Examples of the queue of timers, as the pages show them.
+use fc_base::TryClone;
 use fc_budget::Budget;
 use fc_timers::{RescheduleError, TimerQueue};
 use std::alloc::Global;
@@ -91,7 +92,53 @@ fn room_that_no_timer_needs(rt: HostRuntime) -> Result<(), Fail> {
 }
 
 #[test]
+fn walks(rt: HostRuntime) -> Result<(), Fail> {
+    let alloc = rt.alloc();
+    // example: TimerQueue::iter
+    let mut queue = TimerQueue::new(alloc);
+    let late = queue.try_insert(30u64, 'a')?;
+    let soon = queue.try_insert(10, 'b')?;
+    for (timer, _at, _value) in &queue {
+        assert!(rt; timer == late || timer == soon); // in no order that is promised
+    }
+    assert_eq!(rt; queue.iter().len(), 2);
+    // end
+    let mut walk = queue.into_iter(); // in the order in which they come out
+    assert_eq!(rt; walk.next(), Some((soon, 10, 'b')));
+    Ok(())
+}
+
+#[test]
+fn the_first_whenever_it_is_due(rt: HostRuntime) -> Result<(), Fail> {
+    let alloc = rt.alloc();
+    // example: TimerQueue::pop_first
+    let mut queue = TimerQueue::new(alloc);
+    let timer = queue.try_insert(10u64, 'a')?;
+    let copy = queue.try_clone()?; // handles find in it what they find in the queue
+    assert_eq!(rt; queue.pop_first(), Some((timer, 10, 'a')));
+    assert_eq!(rt;
+        (queue.get(timer), copy.get(timer)),
+        (None, Some((&10, &'a')))
+    );
+    // end
+    Ok(())
+}
+
+#[test]
+fn a_value_for_another(rt: HostRuntime) -> Result<(), Fail> {
+    let alloc = rt.alloc();
+    // example: TimerQueue::set_value
+    let mut queue = TimerQueue::new(alloc);
+    let timer = queue.try_insert(10u64, 'a')?;
+    assert_eq!(rt; queue.set_value(timer, 'b'), Ok('a')); // the timer keeps its time
+    assert_eq!(rt; queue.pop_due(&10), Some((timer, 10, 'b')));
+    assert_eq!(rt; queue.set_value(timer, 'c'), Err('c')); // it came out
+    // end
+    Ok(())
+}
+
+#[test]
 fn bytes(rt: HostRuntime) {
-    assert_eq!(rt; size_of::<TimerQueue<u64, u64>>(), 48);
-    assert_eq!(rt; size_of::<TimerQueue<u64, u64, &Budget<Global>>>(), 56);
+    assert_eq!(rt; size_of::<TimerQueue<u64, u64>>(), 64);
+    assert_eq!(rt; size_of::<TimerQueue<u64, u64, &Budget<Global>>>(), 80);
 }

@@ -4,6 +4,8 @@
 #[cfg(test)]
 mod budget;
 #[cfg(test)]
+mod copies;
+#[cfg(test)]
 mod examples;
 #[cfg(test)]
 mod listed;
@@ -15,3 +17,7 @@ mod owned;
 mod refusals;
 #[cfg(test)]
 mod row;
+#[cfg(test)]
+mod values;
+#[cfg(test)]
+mod walks;

@@ -12,7 +12,6 @@ use std::test::Fail;
 pub fn put_in(queue: &mut Numbers, at: u64, value: u64) -> Result<Timer, TryReserveError>
     ensures { IfOk result (λ timer. queue.new.timers ≡ due_by nat_cmp queue.old.timers at ++ ((at, queue.old.next_turn), (timer, value)) ∷ due_after nat_cmp queue.old.timers at) }
 {
-    let _count = queue.len(); // which tells that the list is in order
     match queue.try_insert(at, value) {
         Ok(timer) => Ok(timer),
         Err((_at, _value, error)) => Err(error),

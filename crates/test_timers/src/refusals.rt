@@ -42,7 +42,7 @@ fn fill(alloc: Global, queue: &mut Boxes, count: u64) -> (u64, bool) {
     (filled, true)
 }
 
-// Each request may be refused: of the values, and of the slots, which are 4 and then 8.
+// Each request may be refused: of the values, and of the slots and of the places of the heap, which are 4 and then 8.
 #[test]
 fn a_refused_insertion_leaves_the_queue(rt: HostRuntime) -> Result<(), Fail> {
     let mut queue: Boxes = TimerQueue::new(rt.alloc());

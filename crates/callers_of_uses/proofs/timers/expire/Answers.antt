@@ -8,4 +8,4 @@ returns-clause-out c = λ e there due. due_comes_out nat_cmp c.args.queue.now.ti
 
 pub returns-clause-gone : goal.returns-clause-gone
 returns-clause-gone c = λ e there due. rw c.drain_due.ensures.timers
-    (due_is_gone nat_cmp nat_cmp_total c.args.queue.now c.len-len.ensures.in_order c.args.timer e c.args.now there due)
+    (due_is_gone nat_cmp nat_cmp_total c.args.queue.now c.drain_due.ensures.in_order c.args.timer e c.args.now there due)

@@ -7,8 +7,5 @@ use Rattle.fc_timers.proofs.heap.hold.Goals as goal
 pub returns-clause-held : goal.returns-clause-held
 returns-clause-held g c = map-set (λ s. s.held) c.args.slots.now c.args.slot _ ∙ ap (set (helds c.args.slots.now) c.args.slot) c.replace.ensures.after
 
-pub returns-clause-due : goal.returns-clause-due
-returns-clause-due g c = map-set_same (λ s. s.due) c.args.slots.now c.args.slot _ c.index-slots-slot.result refl
-
 pub returns-clause-link : goal.returns-clause-link
 returns-clause-link g c = map-set_same (λ s. s.link) c.args.slots.now c.args.slot _ c.index-slots-slot.result refl

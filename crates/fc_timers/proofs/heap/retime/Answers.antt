@@ -16,8 +16,8 @@ settle-requires g c =
     let due : Due g.row.T.Denot = record { at = c.args.at; turn = c.args.turn; slot = c.args.slot } in
     let written : helds c.write_time.new.slots ≡ set (helds slots) c.args.slot (Some now) =
     said.held ∙ ap (λ h. set (helds slots) c.args.slot (renewed c.args.at c.args.turn h)) was.1 in
-    subst (λ p. IsOpen g.T.Ord.cmp c.write_time.new.slots p due) (sym c.link_at-place.ensures)
-    (retime_gap g.met.T.Ord.total slots c.write_time.new.slots c.requires.heap c.args.slot now written said.due said.link was.0 was.1)
+    subst (λ p. IsOpen g.T.Ord.cmp c.write_time.new.slots c.args.heap.now p due) (sym c.link_at-place.ensures)
+    (retime_gap g.met.T.Ord.total slots c.write_time.new.slots c.args.slot c.args.heap.now c.requires.heap now written said.link was.0 was.1)
 
 pub returns-clause-vacant : goal.returns-clause-vacant
 returns-clause-vacant g c = λ k none. c.settle.ensures.vacant k none ∙ ap (λ l. get_or l k 0) c.write_time.ensures.link

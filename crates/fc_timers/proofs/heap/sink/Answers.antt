@@ -1,31 +1,56 @@
-use Rattle.std.proofs.Common.{◌≢◌, ◌∙◌, arith}
-use Rattle.fc_timers.specs.Heap.{due_at, links}
+use Rattle.std.proofs.Common.{◌≢◌, ◌∙◌, refl, arith}
+use Rattle.std.proofs.lemmas.Option.{slice_get_within}
+use Rattle.std.specs.List.{slice_get}
+use Rattle.fc_timers.specs.Heap.{links}
 use Rattle.fc_timers.proofs.Heaps.{order_sunk}
-use Rattle.fc_timers.proofs.Moves.{moved_gap, moved_slot, moved_under, moved_vacant}
+use Rattle.fc_timers.proofs.Moves.{moved_gap, moved_len, moved_slot, moved_under, moved_vacant}
 use Rattle.fc_timers.proofs.heap.sink.Goals as goal
 
-pub set_place-requires-clause-slot : goal.set_place-requires-clause-slot
-set_place-requires-clause-slot g c =
+pub down-init : goal.down-init
+down-init g c = record { held = refl; vacant = λ k none. refl; len = refl; gap = c.requires.gap; under = c.requires.under }
+
+pub earlier_below-requires : goal.earlier_below-requires
+earlier_below-requires g c = c.down.invariant.gap.place
+
+pub shift-requires-clause-from : goal.shift-requires-clause-from
+shift-requires-clause-from g c =
     let first = c.in-Some.ensures.first in
-    moved_slot c.down.slots c.down.place c.args.due.now c.down.invariant.gap c.in-Some.below c.in-Some.other (omega (arith, first.below)) first.stands
+    slice_get_within c.down.heap c.in-Some.below first.0 first.1.stands
+
+pub shift-requires-clause-slot : goal.shift-requires-clause-slot
+shift-requires-clause-slot g c = λ d stands.
+    let first = c.in-Some.ensures.first in
+    moved_slot c.down.slots c.down.heap c.down.place c.args.due.now c.down.invariant.gap c.in-Some.below d (omega (arith, first.1.below)) stands
+
+pub shift-requires-clause-to : goal.shift-requires-clause-to
+shift-requires-clause-to g c = c.down.invariant.gap.place
 
 pub down-preserved : goal.down-preserved
 down-preserved g c =
-    let was = c.down.slots in
-    let place = c.down.place in
-    let gap = c.down.invariant.gap in
     let first = c.in-Some.ensures.first in
     let below = c.in-Some.below in
-    let other = c.in-Some.other in
+    let slots = c.down.slots in
+    let heap = c.down.heap in
+    let place = c.down.place in
     let due = c.args.due.now in
-    let apart : below ≢ place = omega (arith, first.below) in
-    let said = c.set_place.ensures in
-    let order = order_sunk g.T.Ord.cmp (due_at was) place below other first.below first.stands first.first gap.ordered in
+    let gap = c.down.invariant.gap in
+    let stands = first.1.stands in
+    let apart : below ≢ place = omega (arith, first.1.below) in
+    let said = c.shift.ensures in
+    let moved = said.due first.0 stands in
+    let led = said.link first.0 stands in
+    let order = order_sunk g.T.Ord.cmp (slice_get heap) place below first.0 first.1.below stands first.1.first gap.ordered in
     record {
       held = said.held ∙ c.down.invariant.held;
-      vacant = moved_vacant was place due gap below other apart first.stands c.set_place.new.slots said.held said.due said.link (links c.args.slots.now)
-          c.down.invariant.vacant;
-      gap = moved_gap was place due gap below other apart first.stands c.set_place.new.slots said.held said.due said.link order;
-      under = moved_under was place due gap below other apart first.stands c.set_place.new.slots said.held said.due said.link first.below
-          c.in-Some.ensures.earlier;
+      vacant = moved_vacant slots heap place due gap below first.0 apart stands c.shift.new.slots c.shift.new.heap said.held moved led
+          (links c.args.slots.now) c.down.invariant.vacant;
+      len = moved_len slots heap place due gap below first.0 apart stands c.shift.new.slots c.shift.new.heap said.held moved led ∙ c.down.invariant.len;
+      gap = moved_gap slots heap place due gap below first.0 apart stands c.shift.new.slots c.shift.new.heap said.held moved led order;
+      under = moved_under slots heap place due gap below first.0 apart stands c.shift.new.slots c.shift.new.heap said.held moved led first.1.below first.2;
     }
+
+pub returns-clause-under : goal.returns-clause-under
+returns-clause-under g c = c.down.invariant.under
+
+pub returns-clause-over : goal.returns-clause-over
+returns-clause-over g c = c.in_default.ensures.none

@@ -13,8 +13,5 @@ returns-in-Some-clause-held g c =
     get_or-map (λ s. s.held) was slot c.index-slots-slot.result None c.requires ∙ c.in-Some.is in
     map-set (λ s. s.held) was slot _ ∙ ap (λ h. set (helds was) slot (renewed c.args.at c.args.turn h)) (sym here)
 
-pub returns-in-Some-clause-due : goal.returns-in-Some-clause-due
-returns-in-Some-clause-due g c = map-set_same (λ s. s.due) c.args.slots.now c.args.slot _ c.index-slots-slot.result refl
-
 pub returns-in-Some-clause-link : goal.returns-in-Some-clause-link
 returns-in-Some-clause-link g c = map-set_same (λ s. s.link) c.args.slots.now c.args.slot _ c.index-slots-slot.result refl

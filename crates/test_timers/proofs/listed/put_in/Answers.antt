@@ -7,4 +7,4 @@ use Rattle.test_timers.proofs.listed.put_in.Goals as goal
 pub returns-in-Ok : goal.returns-in-Ok
 returns-in-Ok c =
     c.in-Ok.ensures.timers
-    ∙ put_after_its_time nat_cmp nat_cmp_total c.args.queue.now c.len-count.ensures.in_order c.args.at (c.in-Ok.timer, c.args.value)
+    ∙ put_after_its_time nat_cmp nat_cmp_total c.args.queue.now c.in-Ok.ensures.in_order c.args.at (c.in-Ok.timer, c.args.value)

@@ -1,6 +1,6 @@
 use Rattle.std.proofs.Common.{None, Some, sym, ap, ◌∙◌}
 use Rattle.fc_timers.specs.InOrder.{in_order}
-use Rattle.fc_timers.proofs.Calls.{given_less, in_order_cancelled, length_in_order}
+use Rattle.fc_timers.proofs.Calls.{given_less, in_order_cancelled, length_in_order, queue_in_order}
 use Rattle.fc_timers.proofs.Thin.{told_as, without_none}
 use Rattle.fc_timers.proofs.queue.TimerQueue.cancel.Goals as goal
 
@@ -39,3 +39,9 @@ returns-clause-count g c =
       length_in_order g.T.Ord.cmp total c.self.inside.slots c.self.invariant,
       length_in_order g.T.Ord.cmp total c.cancel.new.self new,
     ) c.in_ok-armed.ensures.count
+
+pub returns-in_err-armed-clause-in_order : goal.returns-in_err-armed-clause-in_order
+returns-in_err-armed-clause-in_order g c = rw (← c.self.view_is) (queue_in_order g.T.Ord.cmp g.met.T.Ord.total c.self.inside.slots _ c.self.invariant)
+
+pub returns-clause-in_order : goal.returns-clause-in_order
+returns-clause-in_order g c = rw (← c.self.view_is) (queue_in_order g.T.Ord.cmp g.met.T.Ord.total c.self.inside.slots _ c.self.invariant)

@@ -8,6 +8,7 @@ pub due-init : goal.due-init
 due-init g c = record {
   callable = c.requires.callable;
   drained = none_drained g.T.Ord.cmp (GivenTimer g.F.FnMut) c.args.now.now c.args.f c.args.self.now.timers;
+  order = λ is. is;
   turn = refl;
   room = refl;
 }
@@ -18,6 +19,7 @@ due-preserved g c = record {
   drained = drained_further g.T.Ord.cmp (GivenTimer g.F.FnMut) c.args.now.now _ _ _ _ _ _
       ((c.in-Some.at, c.in-Some.ensures.popped.0), (c.in-Some.timer, c.in-Some.value)) c.due.invariant.drained c.in-Some.ensures.popped.1
       c.in-Some.ensures.due (search rules);
+  order = λ is. c.due.invariant.order c.pop_due.ensures.in_order;
   turn = c.pop_due.ensures.turn ∙ c.due.invariant.turn;
   room = c.pop_due.ensures.room ∙ c.due.invariant.room;
 }
@@ -30,3 +32,6 @@ returns-clause-timers g c =
 pub returns-clause-handed : goal.returns-clause-handed
 returns-clause-handed g c =
     (c.due.f, (all_drained g.T.Ord.cmp (GivenTimer g.F.FnMut) c.args.now.now _ _ _ _ c.due.invariant.drained c.in_default.ensures.none).1)
+
+pub returns-clause-in_order : goal.returns-clause-in_order
+returns-clause-in_order g c = c.due.invariant.order c.pop_due.ensures.in_order

@@ -1,5 +1,5 @@
 use Rattle.fc_timers.specs.Slotted.{AreGivenOut}
-use Rattle.fc_timers.proofs.Calls.{length_in_order}
+use Rattle.fc_timers.proofs.Calls.{length_in_order, queue_in_order}
 use Rattle.fc_timers.proofs.Thin.{contained, given_after_move, list_after_move, refused_move, time_after_move}
 use Rattle.fc_timers.proofs.queue.TimerQueue.reschedule.Given as given
 use Rattle.fc_timers.proofs.queue.TimerQueue.reschedule.Goals as goal
@@ -39,3 +39,6 @@ returns-clause-refused g c =
 pub returns-clause-error : goal.returns-clause-error
 returns-clause-error g c =
     rw (← c.self.view_is, contained g.T.Ord.cmp g.met.T.Ord.total c.self.inside.slots c.self.invariant c.args.timer) c.reschedule.ensures.error
+
+pub returns-clause-in_order : goal.returns-clause-in_order
+returns-clause-in_order g c = rw (← c.self.view_is) (queue_in_order g.T.Ord.cmp g.met.T.Ord.total c.self.inside.slots _ c.self.invariant)

@@ -1,5 +1,5 @@
 use Rattle.fc_timers.specs.Slotted.{AreGivenOut}
-use Rattle.fc_timers.proofs.Calls.{length_in_order}
+use Rattle.fc_timers.proofs.Calls.{length_in_order, queue_in_order}
 use Rattle.fc_timers.proofs.Thin.{fresh_in_list, given_after_insertion, list_after_insertion}
 use Rattle.fc_timers.proofs.queue.TimerQueue.try_insert.Given as given
 use Rattle.fc_timers.proofs.queue.TimerQueue.try_insert.Goals as goal
@@ -34,3 +34,6 @@ returns-clause-count g c =
 pub returns-clause-fits : goal.returns-clause-fits
 returns-clause-fits g c =
     rw (← c.self.view_is, length_in_order g.T.Ord.cmp g.met.T.Ord.total c.self.inside.slots c.self.invariant) c.try_insert.ensures.fits
+
+pub returns-clause-in_order : goal.returns-clause-in_order
+returns-clause-in_order g c = rw (← c.self.view_is) (queue_in_order g.T.Ord.cmp g.met.T.Ord.total c.self.inside.slots _ c.self.invariant)

@@ -1,5 +1,3 @@
-use Rattle.std.proofs.Common.{subst}
-use Rattle.fc_timers.specs.Slotted.{AreGivenOut}
 use Rattle.fc_timers.proofs.Calls.{length_in_order}
 use Rattle.fc_timers.proofs.queue.TimerQueue.try_reserve.Goals as goal
 

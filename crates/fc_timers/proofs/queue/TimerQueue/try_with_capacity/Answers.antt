@@ -1,5 +1,5 @@
 use Rattle.std.proofs.Common.{◌≡◌, ◌+◌, true, arith}
-use Rattle.std.specs.Prelude.{length, nat_le}
+use Rattle.std.specs.Prelude.{nat_le}
 use Rattle.std.proofs.lemmas.Result.{err_from_is_err_and}
 use Rattle.fc_timers.proofs.queue.TimerQueue.try_with_capacity.Goals as goal
 
