@@ -40,8 +40,9 @@ UNCOUNTED = {
     "fc_timers/src/order.rt": {"precedes"},
     "fc_timers/src/slots.rt": {"first_due", "pop_due"},
     "fc_intervals/src/gaps.rt": {"next"},
-    "fc_intervals/src/map.rt": {"put", "cut"},
-    "fc_intervals/src/map/joined.rt": {"put_joined"},
+    "fc_intervals/src/map.rt": {"try_put", "try_cut"},
+    "fc_intervals/src/map/handed.rt": {"try_cut_with"},
+    "fc_intervals/src/map/joined.rt": {"try_put_joined"},
     "fc_intervals/src/joins.rt": {"joint_end"},
     "fc_intervals/src/steps.rt": {"is_free", "rest_after", "end_at"},
     # collections compared with one another
@@ -61,6 +62,8 @@ SEEN = {
 # The tree's moves of children, which nobody reads, are counted for nobody.
 CHILDREN = {"fc_tree_slots/src/children.rt", "fc_tree_slots/src/children/push.rt"}
 OWN = {
+    # where the walk over a range without an end begins, whose comparisons nothing promises
+    "fc_intervals/src/map/open.rt": {"first_from"},
     # pairs that come into nodes which no map holds yet
     "fc_tree_build/src/spine.rt": {"put_pair"},
     "fc_tree_copy/src/copy.rt": {"try_copy_pairs"},

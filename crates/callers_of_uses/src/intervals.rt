@@ -20,7 +20,7 @@ pub fn book(
     if nights.overlaps(from..to) {
         return Ok(false);
     }
-    nights.put(from..to, guest)?;
+    nights.try_put(from..to, guest)?;
     Ok(true)
 }
 
@@ -33,7 +33,7 @@ pub fn release(
     ensures released { OnOk result ((p : ℕ) → from ≤ p → p < to → value_at_point nat_cmp nights.new p ≡ None) }
     ensures still_free { OnOk result ((p : ℕ) → value_at_point nat_cmp nights.old p ≡ None → value_at_point nat_cmp nights.new p ≡ None) }
 {
-    nights.cut(from..to)
+    nights.try_cut(from..to)
 }
 
 /// The first nights in a row of a range that are free.

@@ -58,8 +58,8 @@ fn answer_of_range<W: Write>(
     out: &mut W,
 ) -> io::Result<()> {
     match (word, range(rest), number(rest)) {
-        ("cut", Some((start, end)), _) => done(map.cut(start..end), out),
-        ("split", _, Some(point)) => done(map.split_at(point), out),
+        ("cut", Some((start, end)), _) => done(map.try_cut(start..end), out),
+        ("split", _, Some(point)) => done(map.try_split_at(point), out),
         ("join", _, Some(point)) if map.join_at(point) => writeln!(out, "joined"),
         ("join", _, Some(_)) => writeln!(out, "apart"),
         ("over", Some((start, end)), _) => list_over(map, start, end, out),
@@ -95,7 +95,7 @@ fn put(map: &mut Intervals, start: u64, end: u64, value: u64) -> Result<(), TryR
     ensures outside { OnOk result ((p : ℕ) → (p < start) ⊎ (end ≤ p) → value_at_point nat_cmp map.new p ≡ value_at_point nat_cmp map.old p) }
     ensures unchanged { OnErr result (map.new ≡ map.old) }
 {
-    map.put(start..end, value)?;
+    map.try_put(start..end, value)?;
     Ok(())
 }
 

@@ -12,3 +12,7 @@ mod Put
 mod Copies
 mod FirstGap
 mod JoinedPut
+mod Handed
+mod ValueSet
+mod InTurn
+mod Open

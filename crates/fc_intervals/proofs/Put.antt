@@ -54,7 +54,7 @@ module _ {K V : Type 0} (cmp : K → K → Ordering) (o : IsTotalOrder cmp) (s :
 
 -- what may refuse a call does not, where no memory is needed
 module _ {K V : Type 0} (cmp : K → K → Ordering) (may_refuse : V → TryReserveError → Type 0) (s : List (K × Stretch K V)) (b : K) where
-  no_rest : (e : TryReserveError) → goes_across cmp s b ≡ false → ¬ (MayRefuseRest cmp may_refuse s b e)
+  pub no_rest : (e : TryReserveError) → goes_across cmp s b ≡ false → ¬ (MayRefuseRest cmp may_refuse s b e)
   no_rest e none h = let no : true ≡ false = sym (ap (ends_after cmp b) h.1 ∙ h.2) ∙ none in absurd cc
 
   pub sure_rest : {X : Type 0} (r : Result X TryReserveError) → IfErr r (MayRefuseRest cmp may_refuse s b) → goes_across cmp s b ≡ false → IsOk r

@@ -39,7 +39,7 @@ module _ {X : Type 0} where
       go true more h = subst P (one_value x y h) a.0
       go false more h = more h
 
-  kept_alike : (p q : X → Bool) (s : List X) → AllByRecursion (λ x. p x ≡ q x) s → filter p s ≡ filter q s
+  pub kept_alike : (p q : X → Bool) (s : List X) → AllByRecursion (λ x. p x ≡ q x) s → filter p s ≡ filter q s
   kept_alike p q [] a = refl
   kept_alike p q (x ∷ s) a = ap (λ b. cond b (x ∷ filter p s) (filter p s)) a.0 ∙ ap (λ t. cond (q x) (x ∷ t) t) (kept_alike p q s a.1)
 

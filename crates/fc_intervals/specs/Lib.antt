@@ -8,3 +8,7 @@ pub mod Compare
 pub mod Copies
 pub mod FirstGap
 pub mod JoinedPut
+pub mod Handed
+pub mod ValueSet
+pub mod InTurn
+pub mod Open

@@ -19,7 +19,11 @@ use std::alloc::Global;
 use std::marker::Model;
 use std::ops::Range;
 
+mod extend;
+mod handed;
 mod joined;
+mod open;
+mod value;
 mod whole;
 
 /// A map from points to values by half-open stretches: each holds its start and the points after it up to its end, and not its end.
@@ -177,7 +181,7 @@ impl<K: Ord + Copy + Drop, V, A: Handle> IntervalMap<K, V, A> {
 
 impl<K: Ord + Copy + Drop, V: Drop, A: Handle> IntervalMap<K, V, A> {
     /// Takes the stretch that covers a point out whole, and answers it with its value. `None` where none does, and nothing changes. It takes no memory,
-    /// and so is never refused, as `cut` of the stretch's range may seem to be.
+    /// and so is never refused, as `try_cut` of the stretch's range may seem to be.
     pub fn remove_at(&mut self, at: K) -> Option<(Range<K>, V)>
         ensures taken { IfSome result (λ r. IsTaken K.cmp at (stretch_of r) self.old self.new) }
         ensures none { IfNone result (stretch_at K.cmp self.old at ≡ None) }
@@ -208,7 +212,7 @@ impl<K: Ord + Copy + Drop, V: Drop, A: Handle> IntervalMap<K, V, A> {
 
 impl<K: Ord + Copy + Drop, V: PartialEq + Drop, A: Handle> IntervalMap<K, V, A> {
     /// Joins the stretch that ends at a point and the one that starts there, where both hold equal values: the first goes on to the end of the
-    /// second, whose value is dropped. Answers whether it did; else nothing changes. It undoes `split_at`; and a stretch that was put becomes one
+    /// second, whose value is dropped. Answers whether it did; else nothing changes. It undoes `try_split_at`; and a stretch that was put becomes one
     /// with its neighbours by two calls, at both ends of its range. It takes no memory.
     pub fn join_at(&mut self, at: K) -> bool
         ensures joined { IsTrue result → IsJoined K.cmp V.eq at self.old self.new }
@@ -234,7 +238,7 @@ impl<K: Ord + Copy + Drop, V: TryClone, A: Handle> IntervalMap<K, V, A> {
     /// Where the copy that goes on after the range was refused, by its own error. Else where a place was, for what goes on, or then for the new stretch,
     /// which needs one unless a stretch starts where it does: by `CapacityOverflow` where there are `usize::MAX` stretches then, and always; or by
     /// `AllocError`, where memory for a node was refused. The map is then as it was, and the value comes back.
-    pub fn put(&mut self, range: Range<K>, value: V) -> Result<(), (V, TryReserveError)>
+    pub fn try_put(&mut self, range: Range<K>, value: V) -> Result<(), (V, TryReserveError)>
         requires { V.can_clone }
         ensures put { is_lt (K.cmp range.start range.end) ≡ true → OnOk result (IsPut K.cmp V.same range.start range.end value self.old self.new) }
         ensures written { OnOk result (IsWritten K.cmp V.same range.start range.end (Some value) self.old self.new) }
@@ -252,7 +256,7 @@ impl<K: Ord + Copy + Drop, V: TryClone, A: Handle> IntervalMap<K, V, A> {
         }
     }
 
-    // `put` over a range that is not empty.
+    // `try_put` over a range that is not empty.
     fn put_over(&mut self, start: K, end: K, value: V) -> Result<(), (V, TryReserveError)>
         requires can { V.can_clone }
         requires range { K.cmp start end ≡ Less }
@@ -273,7 +277,7 @@ impl<K: Ord + Copy + Drop, V: TryClone, A: Handle> IntervalMap<K, V, A> {
     /// # Errors
     /// Where the copy that goes on after the range was refused, by its own error. Else where a place for it was: by `CapacityOverflow` where there are
     /// `usize::MAX` stretches, and then always; or by `AllocError`, where memory for a node was refused. The map is then as it was.
-    pub fn cut(&mut self, range: Range<K>) -> Result<(), TryReserveError>
+    pub fn try_cut(&mut self, range: Range<K>) -> Result<(), TryReserveError>
         requires { V.can_clone }
         ensures cut { is_lt (K.cmp range.start range.end) ≡ true → OnOk result (IsCut K.cmp V.same range.start range.end self.old self.new) }
         ensures written { OnOk result (IsWritten K.cmp V.same range.start range.end None self.old self.new) }
@@ -296,7 +300,7 @@ impl<K: Ord + Copy + Drop, V: TryClone, A: Handle> IntervalMap<K, V, A> {
     /// # Errors
     /// Where the copy was refused, by its own error. Else where a place for the second stretch was: by `CapacityOverflow` where there are `usize::MAX`
     /// stretches, and then always; or by `AllocError`, where memory for a node was refused. The map is then as it was.
-    pub fn split_at(&mut self, at: K) -> Result<(), TryReserveError>
+    pub fn try_split_at(&mut self, at: K) -> Result<(), TryReserveError>
         requires { V.can_clone }
         ensures split { OnOk result (IsCut K.cmp V.same at at self.old self.new) }
         ensures values { OnOk result ((p : K) → IsKept V.same (value_at_point K.cmp self.old p) (value_at_point K.cmp self.new p)) }
@@ -308,7 +312,7 @@ impl<K: Ord + Copy + Drop, V: TryClone, A: Handle> IntervalMap<K, V, A> {
         self.cut_over(at, at)
     }
 
-    // `cut` of a range that is not the wrong way round. An empty one is a point, at which stretches are cut.
+    // `try_cut` of a range that is not the wrong way round. An empty one is a point, at which stretches are cut.
     fn cut_over(&mut self, start: K, end: K) -> Result<(), TryReserveError>
         requires can { V.can_clone }
         requires range { is_le (K.cmp start end) ≡ true }

@@ -10,6 +10,7 @@ ghost use Rattle.fc_base.specs.Ranges.{within};
 ghost use Rattle.fc_map.specs.Entries.{entries, now_pair};
 ghost use Rattle.fc_map.specs.Ranged.{outside};
 ghost use Rattle.fc_laws.specs.Words.{last_item};
+ghost use Rattle.fc_intervals.specs.Handed.{MayRefuseCopy};
 ghost use Rattle.fc_intervals.specs.Put.{IsPut};
 ghost use Rattle.fc_intervals.specs.Refusals.{MayRefuseAt, MayRefusePut, MayRefuseRest, parted_length, put_length, starts_at};
 ghost use Rattle.fc_intervals.specs.Stretches.{AreApart, IsLookUp, IsWritten, overlapping, stretch_at};
@@ -19,6 +20,8 @@ use crate::stretch::Stretch;
 use fc_base::{Count, Handle, TryClone, TryReserveError, compare};
 use fc_map::map::BTreeMap;
 use std::ops::Bound;
+
+pub(crate) mod handed;
 
 /// The stretch that covers a point, if one does.
 pub(crate) fn covering<'a, K: Ord, V, A: Handle>(
@@ -65,6 +68,7 @@ pub(crate) fn rest_after<K: Ord + Copy, V: TryClone, A: Handle>(
     requires { V.can_clone }
     ensures rest { IfOk result (λ rest. IsRest K.cmp V.same (entries map.now) at rest) }
     ensures error { IfErr result (MayRefuseRest K.cmp V.may_refuse (entries map.now) at) }
+    ensures copy { IfErr result (MayRefuseCopy K.cmp V.may_refuse (entries map.now) at) }
 {
     let Some((_, stretch)) = map.last_before(&at) else {
         return Ok(None);

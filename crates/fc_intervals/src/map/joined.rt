@@ -12,12 +12,12 @@ use fc_base::{Handle, TryClone, TryReserveError};
 use std::ops::Range;
 
 impl<K: Ord + Copy + Drop, V: PartialEq + TryClone, A: Handle> IntervalMap<K, V, A> {
-    /// `put`, and then the new stretch is one with each neighbour that touches it and holds an equal value. Of equal values the first stretch's stays.
+    /// `try_put`, and then the new stretch is one with each neighbour that touches it and holds an equal value. Of equal values the first stretch's stays.
     /// An empty range has no points: nothing changes, no memory is taken, and the value is dropped.
     ///
     /// # Errors
-    /// As of `put`: the map is then as it was, and the value comes back.
-    pub fn put_joined(&mut self, range: Range<K>, value: V) -> Result<(), (V, TryReserveError)>
+    /// As of `try_put`: the map is then as it was, and the value comes back.
+    pub fn try_put_joined(&mut self, range: Range<K>, value: V) -> Result<(), (V, TryReserveError)>
         requires { V.can_clone }
         ensures joined { is_lt (K.cmp range.start range.end) ≡ true → OnOk result (IsPutJoined K.cmp V.same V.eq range.start range.end value self.old self.new) }
         ensures empty { is_lt (K.cmp range.start range.end) ≡ false → IsOk result × (self.new ≡ self.old) }
@@ -31,7 +31,7 @@ impl<K: Ord + Copy + Drop, V: PartialEq + TryClone, A: Handle> IntervalMap<K, V,
         if !start.cmp(&end).is_lt() {
             return Ok(());
         }
-        if let Err(refused) = self.put(start..end, value) {
+        if let Err(refused) = self.try_put(start..end, value) {
             return Err(refused);
         }
         self.join_ends(start, end);

@@ -3,7 +3,7 @@ use Rattle.std.specs.Ordering.{is_lt}
 use Rattle.fc_intervals.proofs.Order.{is_less}
 use Rattle.fc_intervals.proofs.Put.{sure_put}
 use Rattle.fc_intervals.proofs.Written.{empty_written}
-use Rattle.fc_intervals.proofs.map.IntervalMap.put.Goals as goal
+use Rattle.fc_intervals.proofs.map.IntervalMap.try_put.Goals as goal
 
 pub put_over-requires-clause-range : goal.put_over-requires-clause-range
 put_over-requires-clause-range g c = is_less _ (ap is_lt (sym c.cmp.ensures) ∙ sym c.is_lt.ensures ∙ c.if-is_lt.true)

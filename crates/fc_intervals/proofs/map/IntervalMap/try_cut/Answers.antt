@@ -3,7 +3,7 @@ use Rattle.std.specs.Ordering.{is_lt, is_le}
 use Rattle.fc_intervals.proofs.Order.{is_less}
 use Rattle.fc_intervals.proofs.Put.{sure_rest}
 use Rattle.fc_intervals.proofs.Written.{empty_written}
-use Rattle.fc_intervals.proofs.map.IntervalMap.cut.Goals as goal
+use Rattle.fc_intervals.proofs.map.IntervalMap.try_cut.Goals as goal
 
 pub cut_over-requires-clause-range : goal.cut_over-requires-clause-range
 cut_over-requires-clause-range g c = ap is_le (is_less _ (ap is_lt (sym c.cmp.ensures) ∙ sym c.is_lt.ensures ∙ c.if-is_lt.true))
