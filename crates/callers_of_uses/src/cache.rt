@@ -14,7 +14,6 @@ pub fn put_then_peek(
     ensures there { IfOk result (λ found. found ≡ Some value) }
     ensures unchanged { OnErr result (cache.new ≡ cache.old) }
 {
-    let _len = cache.len(); // which tells that no two keys are equal
     match cache.try_put(key, value, cost) {
         Ok(()) => Ok(cache.peek(&key).copied()),
         Err((_key, _value, error)) => Err(error),
@@ -25,7 +24,6 @@ pub fn put_then_peek(
 pub fn get_then_peek(cache: &mut Cache<u64, u64>, key: u64) -> (Option<u64>, Option<u64>)
     ensures { result.1 ≡ result.0 }
 {
-    let _len = cache.len();
     let first = cache.get(&key).copied();
     (first, cache.peek(&key).copied())
 }

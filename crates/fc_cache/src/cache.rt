@@ -110,6 +110,7 @@ impl<K: Eq + Hash, V, A: Handle> Cache<K, V, A> {
     pub fn get<Q: Equivalent<K>>(&mut self, key: Q) -> Option<&V>
         ensures* used { sem 𝓛 (ends_used_in K.row V.row A.row K.Hash A.Allocator self.entry (Q.equivalent key)) }
         ensures value { option_copied result ≡ option_map (λ h. h.value) (lookup (Q.equivalent key) self.old.entries) }
+        ensures cached { IsCached K.eq self.old }
     {
         let held = self.recency.get(key)?;
         Some(&held.value)
@@ -117,7 +118,8 @@ impl<K: Eq + Hash, V, A: Handle> Cache<K, V, A> {
 
     /// The value at the key that is equal to this one, which does not count as a use. `None` where there is none.
     pub fn peek<Q: Equivalent<K>>(&self, key: Q) -> Option<&V>
-        ensures { option_copied result ≡ option_map (λ h. h.value) (lookup (Q.equivalent key) self.now.entries) }
+        ensures value { option_copied result ≡ option_map (λ h. h.value) (lookup (Q.equivalent key) self.now.entries) }
+        ensures cached { IsCached K.eq self.now }
     {
         let held = self.recency.peek(key)?;
         Some(&held.value)
@@ -133,7 +135,7 @@ impl<K: Eq + Hash, V, A: Handle> Cache<K, V, A> {
 }
 
 impl<K: Eq + Hash + Drop, V: Drop, A: Handle> Cache<K, V, A> {
-    ghost use Rattle.fc_cache.specs.Entries.{IsRefusal, IsOldest, handed_out, rest_within, with_entry};
+    ghost use Rattle.fc_cache.specs.Entries.{IsCached, IsRefusal, IsOldest, handed_out, rest_within, with_entry};
 
     /// Puts an entry in as the most lately used. Where there is one at an equal key, that key stays, and the old value is dropped with the
     /// key that came in; and of the others, from the least lately used on, as many as it takes for the costs of all to be within the budget.
@@ -149,6 +151,7 @@ impl<K: Eq + Hash + Drop, V: Drop, A: Handle> Cache<K, V, A> {
         ensures error { IfErr result (λ e. IsRefusal self.old.budget cost (length self.old.entries) e.2) }
         ensures back { IfErr result (λ e. (e.0 ≡ key) × (e.1 ≡ value)) }
         ensures unchanged { OnErr result (self.new ≡ self.old) }
+        ensures cached { OnOk result (IsCached K.eq self.old) }
     {
         self.try_put_with(key, value, cost, |_key, _value| ())
     }
@@ -173,6 +176,7 @@ impl<K: Eq + Hash + Drop, V: Drop, A: Handle> Cache<K, V, A> {
         ensures error { IfErr result (λ e. IsRefusal self.old.budget cost (length self.old.entries) e.2) }
         ensures back { IfErr result (λ e. (e.0 ≡ key) × (e.1 ≡ value)) }
         ensures unchanged { OnErr result (self.new ≡ self.old) }
+        ensures cached { OnOk result (IsCached K.eq self.old) }
     {
         if self.budget < cost {
             return Err((key, value, PutError::OverBudget));

@@ -61,6 +61,7 @@ impl<K: Eq + Hash, V, A: Handle> Recency<K, V, A> {
     pub(crate) fn get<Q: Equivalent<K>>(&mut self, key: Q) -> Option<&Held<V>>
         ensures* used { sem 𝓛 (ends_recent_in K.row V.row A.row K.Hash A.Allocator self.entry (used_last (Q.equivalent key) self.old.entries)) }
         ensures value { option_copied result ≡ lookup (Q.equivalent key) self.old.entries }
+        ensures distinct { IsDistinct K.eq (keys_of self.old.entries) }
     {
         let ring = self.ring.as_mut()?;
         // No two keys are equal: the ring tells that by its length.
@@ -70,7 +71,8 @@ impl<K: Eq + Hash, V, A: Handle> Recency<K, V, A> {
 
     /// What is held at a key.
     pub(crate) fn peek<Q: Equivalent<K>>(&self, key: Q) -> Option<&Held<V>>
-        ensures { option_copied result ≡ lookup (Q.equivalent key) self.now.entries }
+        ensures value { option_copied result ≡ lookup (Q.equivalent key) self.now.entries }
+        ensures distinct { IsDistinct K.eq (keys_of self.now.entries) }
     {
         let ring = self.ring.as_ref()?;
         let _known = ring.len();
@@ -165,6 +167,7 @@ impl<K: Eq + Hash + Drop, V: Drop, A: Handle> Recency<K, V, A> {
         ensures back { IfErr result (λ e. e ≡ (key, held)) }
         ensures unchanged { OnErr result (self.new.entries ≡ self.old.entries) }
         ensures succeeds { IsSome (lookup (K.eq key) self.old.entries) → IsOk result }
+        ensures distinct { IsDistinct K.eq (keys_of self.old.entries) }
     {
         match &mut self.ring {
             Some(ring) => push_to(ring, key, held),

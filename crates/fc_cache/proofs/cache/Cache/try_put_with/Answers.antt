@@ -54,4 +54,5 @@ returns-in-Ok g c =
       error = search rules;
       back = search rules;
       unchanged = search rules;
+      cached = search rules;
     })

@@ -1,9 +1,10 @@
 use Rattle.std.proofs.Common.{◌≡◌, ◌≤◌, ◌-◌, [], ◌∷◌, ◌++◌, length, reverse, option_map, IsOk, IfOk, IsSome, sym, ap, ◌∙◌, subst, arith}
 use Rattle.std.proofs.lemmas.Result.{on_ok_weaker, on_err_weaker}
-use Rattle.std.specs.Map.{lookup, remove_entry}
+use Rattle.std.specs.List.{IsDistinct}
+use Rattle.std.specs.Map.{keys_of, lookup, remove_entry}
 use Rattle.fc_cache.specs.Entries.{key_at}
 use Rattle.fc_cache.specs.Recent.{entries_of}
-use Rattle.fc_cache.proofs.Reversed.{reversed, same_value}
+use Rattle.fc_cache.proofs.Reversed.{distinct_reversed, reversed, same_value}
 use Rattle.fc_cache.proofs.Recent.{used_put}
 use Rattle.fc_cache.proofs.recency.Recency.push.Goals as goal
 
@@ -24,4 +25,11 @@ returns-in-Some g c =
       back = c.push_to.ensures.back;
       unchanged = on_err_weaker c.push_to.result (λ same. ap (λ l. reverse l.entries) same ∙ were) c.push_to.ensures.unchanged;
       succeeds = subst (λ v. IsSome v → IsOk c.push_to.result) found c.push_to.ensures.succeeds;
+      distinct = subst (λ l. IsDistinct g.K.PartialEq.eq (keys_of l)) were (distinct_reversed g.met.K.Eq.laws es c.push_to.ensures.distinct);
     })
+
+pub returns-in_default-clause-distinct : goal.returns-in_default-clause-distinct
+unfolding IsDistinct
+returns-in_default-clause-distinct g c =
+    let none : [] ≡ c.args.self.now.entries = ap entries_of (sym c.in-None.is) ∙ ap (λ v. v.entries) c.self.view_is in
+    subst (λ l. IsDistinct g.K.PartialEq.eq (keys_of l)) none tt
