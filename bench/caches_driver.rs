@@ -1,5 +1,5 @@
 //! Times calls on the library's cache beside one that a Rust programmer would write over std's `HashMap` with the same hasher, from keys to places of a `Vec` in
-//! which links make a ring, and compares what both answer.
+//! which links make a ring, and beside the toolchain's `LruCache`, and compares what both answer.
 //!
 //! A cache is filled; then as many other keys are put in, each of which evicts one, and all are looked up at random, then as many keys that are not there.
 //! With the word `count` each job runs once at each size, for `bench/instructions.py`.
@@ -8,23 +8,34 @@ mod jobs;
 
 use harness::sizes::{self, count, print_times};
 use harness::{Folded, Random, Runs, mark, mixed, start};
-use jobs::bench_caches_run;
+use jobs::{bench_caches_run, bench_lru_run};
 use std::collections::HashMap;
 use std::hash::BuildHasherDefault;
+use std::marker::PhantomData;
 
-struct Job {
+struct Job<B> {
     keys: Vec<u64>,
     others: Vec<u64>,
     sought: Vec<u64>,
     missing: Vec<u64>,
+    beside: PhantomData<B>,
 }
 
-impl sizes::Job for Job {
+/// What the cache is measured beside, and how its rows are named.
+trait Beside: 'static {
+    const ROWS: [&'static str; 5];
+
+    fn run(job: &Job<Self>) -> u64
+    where
+        Self: Sized;
+}
+
+impl<B: Beside> sizes::Job for Job<B> {
     const ITEMS: &'static str = "entries";
     const SIZES: [(u64, usize); 2] = [(1_000, 200), (100_000, 10)];
-    const RUNS: Runs<Job> = [run_ours, run_std];
+    const RUNS: Runs<Job<B>> = [run_ours, B::run];
 
-    fn new(entries: u64) -> Job {
+    fn new(entries: u64) -> Job<B> {
         let mut random = Random(entries);
         let mut keys = || -> Vec<u64> { (0..entries).map(|_| random.next()).collect() };
         let (keys, others, missing) = (keys(), keys(), keys());
@@ -34,17 +45,18 @@ impl sizes::Job for Job {
             others,
             sought,
             missing,
+            beside: PhantomData,
         }
     }
 
     fn rows(&self) -> Vec<(&'static str, usize)> {
         let all = self.keys.len();
-        ["put into one with room", "put into a full one", "get that hits", "get that misses", "pop_oldest"].map(|name| (name, all)).to_vec()
+        B::ROWS.map(|name| (name, all)).to_vec()
     }
 }
 
 #[inline(never)]
-fn run_ours(job: &Job) -> u64 {
+fn run_ours<B>(job: &Job<B>) -> u64 {
     bench_caches_run(&job.keys, &job.others, &job.sought, &job.missing, job.keys.len())
 }
 
@@ -158,8 +170,33 @@ impl Cache {
     }
 }
 
+impl Beside for Cache {
+    const ROWS: [&'static str; 5] = ["put into one with room", "put into a full one", "get that hits", "get that misses", "pop_oldest"];
+
+    fn run(job: &Job<Cache>) -> u64 {
+        run_std(job)
+    }
+}
+
+/// The toolchain's cache, which counts entries, and no costs.
+struct Lru;
+
+impl Beside for Lru {
+    const ROWS: [&'static str; 5] = [
+        "put into one with room, beside LruCache",
+        "put into a full one, beside LruCache",
+        "get that hits, beside LruCache",
+        "get that misses, beside LruCache",
+        "pop_oldest, beside LruCache",
+    ];
+
+    fn run(job: &Job<Lru>) -> u64 {
+        bench_lru_run(&job.keys, &job.others, &job.sought, &job.missing, job.keys.len())
+    }
+}
+
 #[inline(never)]
-fn run_std(job: &Job) -> u64 {
+fn run_std(job: &Job<Cache>) -> u64 {
     let mut cache = Cache::new(job.keys.len());
     let mut checksum = 0;
     mark();
@@ -186,6 +223,16 @@ fn run_std(job: &Job) -> u64 {
     checksum
 }
 
+fn count_all() {
+    count::<Job<Cache>>();
+    count::<Job<Lru>>();
+}
+
+fn print_all() {
+    print_times::<Job<Cache>>();
+    print_times::<Job<Lru>>();
+}
+
 fn main() {
-    start(&[("count", count::<Job>)], print_times::<Job>);
+    start(&[("count", count_all)], print_all);
 }

@@ -58,6 +58,7 @@ jobs! {
     bench_timers_steady([times: u64, steps: u64, later: u64]) -> u64;
     bench_tables_run([ids: u64, firsts: u64, seconds: u64, sought: u64, keys: u64, removed: u64]) -> u64;
     bench_caches_run([keys: u64, others: u64, sought: u64, missing: u64], budget: usize) -> u64;
+    bench_lru_run([keys: u64, others: u64, sought: u64, missing: u64], most: usize) -> u64;
     bench_own_run([keys: u64, sought: u64, removed: u64]) -> u64;
 }
 

@@ -16,7 +16,7 @@ fn points_from(start: u64, length: u64) -> Range<u64> {
 }
 
 fn put(map: &mut Stretches, start: u64, length: u64) -> Option<u64> {
-    Some(u64::from(map.put(points_from(start, length), start).is_ok()))
+    Some(u64::from(map.try_put(points_from(start, length), start).is_ok()))
 }
 
 fn made(alloc: Global, pairs: u64) -> Stretches {
@@ -59,10 +59,10 @@ fn ask(map: &Stretches, way: u64, at: u64) -> Option<u64> {
 // Each change leaves as many stretches, but for those that one of them takes.
 fn change(map: &mut Stretches, way: u64, at: u64) -> Option<u64> {
     match way {
-        9 => Some(u64::from(map.split_at(at.wrapping_add(2)).is_ok())),
+        9 => Some(u64::from(map.try_split_at(at.wrapping_add(2)).is_ok())),
         10 => Some(u64::from(map.join_at(at.wrapping_add(2)))),
         11 => put(map, at, 5),
-        12 => Some(u64::from(map.cut(points_from(at, 3)).is_ok())),
+        12 => Some(u64::from(map.try_cut(points_from(at, 3)).is_ok())),
         13 => put(map, at, 20),
         _ => ask(map, way, at),
     }

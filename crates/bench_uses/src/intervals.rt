@@ -14,7 +14,7 @@ fn points_from(start: u64, length: u64) -> Range<u64> {
 // Gives so many points from each start on the start as their value; false where memory was refused.
 fn put_all(map: &mut Stretches, starts: &[u64], length: u64) -> bool {
     for start in starts {
-        if map.put(points_from(*start, length), *start).is_err() {
+        if map.try_put(points_from(*start, length), *start).is_err() {
             return false;
         }
     }
@@ -24,7 +24,7 @@ fn put_all(map: &mut Stretches, starts: &[u64], length: u64) -> bool {
 // Takes the value of so many points from each start on; false where memory was refused.
 fn cut_all(map: &mut Stretches, starts: &[u64], length: u64) -> bool {
     for start in starts {
-        if map.cut(points_from(*start, length)).is_err() {
+        if map.try_cut(points_from(*start, length)).is_err() {
             return false;
         }
     }

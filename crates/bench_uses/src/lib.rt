@@ -4,6 +4,7 @@
 
 mod caches;
 mod intervals;
+mod lru;
 mod steady_timers;
 mod tables;
 mod timers;

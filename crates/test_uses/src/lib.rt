@@ -2,6 +2,8 @@
 //! requests for memory refused.
 #![tactic(auto)]
 
+#[cfg(test)]
+mod bytes;
 pub mod cache;
 #[cfg(test)]
 mod index;

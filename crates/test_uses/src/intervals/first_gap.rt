@@ -67,7 +67,7 @@ fn the_first_gap_that_is_long_enough(rt: HostRuntime) -> Result<(), Fail> {
 fn gaps_at_the_ends_of_all_points(rt: HostRuntime) -> Result<(), Fail> {
     let mut map: Numbers = IntervalMap::new(rt.alloc());
     assert!(rt; map.first_gap(0..u64::MAX, u64::MAX) == Some(0));
-    map.put(10..u64::MAX, 1)?;
+    map.try_put(10..u64::MAX, 1)?;
     assert!(rt;
         map.first_gap(0..u64::MAX, 10) == Some(0) && map.first_gap(0..u64::MAX, 11).is_none()
     );

@@ -34,7 +34,7 @@ fn are_joined(alloc: Global, seed: u64, changes: usize) -> Result<bool, TryReser
         change(&mut map, &mut row, drawn)?;
     }
     for point in 0..25u64 {
-        map.split_at(point)?;
+        map.try_split_at(point)?;
     }
     Ok(joins(&mut map, &row))
 }
@@ -51,13 +51,13 @@ fn stretches_that_touch_are_joined(rt: HostRuntime) -> Result<(), Fail> {
 fn a_stretch_is_one_with_its_neighbours(rt: HostRuntime) -> Result<(), Fail> {
     let mut map: Numbers = IntervalMap::new(rt.alloc());
     for (range, value) in [(0..10, 7), (10..20, 8), (20..30, 7), (30..40, 7)] {
-        assert!(rt; map.put(range, value).is_ok());
+        assert!(rt; map.try_put(range, value).is_ok());
     }
-    assert!(rt; map.put(10..20, 7).is_ok() && map.len() == 4);
+    assert!(rt; map.try_put(10..20, 7).is_ok() && map.len() == 4);
     assert!(rt; map.join_at(10) && map.join_at(20) && !map.join_at(15) && map.len() == 2);
     assert!(rt; map.first().map(|found| found.0) == Some(0..30));
     assert!(rt;
-        map.put(30..40, 9).is_ok() && !map.join_at(30) && !map.join_at(40) && map.len() == 2
+        map.try_put(30..40, 9).is_ok() && !map.join_at(30) && !map.join_at(40) && map.len() == 2
     );
     Ok(())
 }
@@ -86,7 +86,7 @@ fn puts_joined(alloc: Global, seed: u64, puts: usize) -> Result<bool, TryReserve
         let start = (drawn >> 33) % 24;
         let end = start.wrapping_add((drawn >> 40) % 8);
         let value = (drawn >> 52 & 1).wrapping_add(1);
-        map.put_joined(start..end, value)?;
+        map.try_put_joined(start..end, value)?;
         write(&mut row, start, end, value);
         if !has_row(&map, &row) || has_joint(&map) {
             return Ok(false);

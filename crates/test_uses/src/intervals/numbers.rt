@@ -75,11 +75,11 @@ fn is_stretch(found: Option<(Range<u64>, &u64)>, start: u64, end: u64, value: u6
 fn the_first_and_the_last_stretch(rt: HostRuntime) -> Result<(), Fail> {
     let mut map: Numbers = IntervalMap::new(rt.alloc());
     assert!(rt; map.first().is_none() && map.last().is_none());
-    map.put(10..20, 1)?;
+    map.try_put(10..20, 1)?;
     assert!(rt; is_stretch(map.first(), 10, 20, 1) && is_stretch(map.last(), 10, 20, 1));
-    map.put(30..35, 2)?;
-    map.put(0..12, 3)?;
-    map.cut(33..40)?;
+    map.try_put(30..35, 2)?;
+    map.try_put(0..12, 3)?;
+    map.try_cut(33..40)?;
     assert!(rt; is_stretch(map.first(), 0, 12, 3) && is_stretch(map.last(), 30, 33, 2));
     Ok(())
 }
@@ -88,7 +88,7 @@ fn the_first_and_the_last_stretch(rt: HostRuntime) -> Result<(), Fail> {
 #[test]
 fn a_counted_look_up(rt: HostRuntime) -> Result<(), Fail> {
     let mut map: Numbers = IntervalMap::new(rt.alloc());
-    map.put(10..20, 1)?;
+    map.try_put(10..20, 1)?;
     let count = &mut Count::new();
     assert!(rt; map.get_counted(10, count) == Some(&1) && map.get_counted(19, count) == Some(&1));
     assert!(rt; map.get_counted(9, count).is_none() && map.get_counted(20, count).is_none());
@@ -99,24 +99,24 @@ fn a_counted_look_up(rt: HostRuntime) -> Result<(), Fail> {
 #[test]
 fn a_stretch_is_cut_and_split(rt: HostRuntime) -> Result<(), Fail> {
     let mut map: Numbers = IntervalMap::new(rt.alloc());
-    map.put(10..20, 1)?;
-    map.put(20..30, 2)?;
-    map.put(30..40, 3)?;
-    map.put(15..35, 4)?;
+    map.try_put(10..20, 1)?;
+    map.try_put(20..30, 2)?;
+    map.try_put(30..40, 3)?;
+    map.try_put(15..35, 4)?;
     assert!(rt;
         map.len() == 3
             && map.get(14) == Some(&1)
             && map.get(15) == Some(&4)
             && map.get(35) == Some(&3)
     );
-    map.put(20..21, 5)?;
+    map.try_put(20..21, 5)?;
     assert!(rt;
         map.len() == 5
             && map.get(19) == Some(&4)
             && map.get(20) == Some(&5)
             && map.get(21) == Some(&4)
     );
-    map.cut(0..100)?;
+    map.try_cut(0..100)?;
     assert!(rt; map.is_empty());
     Ok(())
 }

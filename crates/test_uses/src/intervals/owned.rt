@@ -16,7 +16,7 @@ fn put(
     number: u64,
 ) -> Result<usize, TryReserveError> {
     let value = Owned::try_new(alloc, number)?;
-    let _refused = map.put(range, value);
+    let _refused = map.try_put(range, value);
     Ok(map.len())
 }
 
@@ -30,11 +30,11 @@ fn seen(map: &mut Boxes, alloc: Global) -> Result<[usize; 7], TryReserveError> {
     seen[1] = put(map, alloc, 22..42, 10)?;
     seen[2] = put(map, alloc, 0..100, 11)?;
     seen[3] = put(map, alloc, 7..7, 12)?;
-    map.cut(40..60)?;
+    map.try_cut(40..60)?;
     seen[4] = map.len();
-    map.cut(35..65)?;
+    map.try_cut(35..65)?;
     seen[5] = map.len();
-    map.cut(0..65)?;
+    map.try_cut(0..65)?;
     seen[6] = map.len();
     Ok(seen)
 }
@@ -53,7 +53,7 @@ fn what_is_covered_or_cut_is_given_up(rt: HostRuntime) {
 fn joins(map: &mut Boxes, alloc: Global) -> Result<bool, TryReserveError> {
     put(map, alloc, 0..20, 1)?;
     put(map, alloc, 20..30, 2)?;
-    map.split_at(10)?;
+    map.try_split_at(10)?;
     let parts = map.len();
     let is_joined = map.join_at(10);
     Ok(parts == 3 && is_joined && !map.join_at(20) && map.len() == 2)
@@ -91,7 +91,7 @@ fn puts_between(map: &mut Boxes, alloc: Global) -> Result<bool, TryReserveError>
     put(map, alloc, 0..10, 1)?;
     put(map, alloc, 20..30, 1)?;
     let value = Owned::try_new(alloc, 1)?;
-    if map.put_joined(10..20, value).is_err() {
+    if map.try_put_joined(10..20, value).is_err() {
         return Ok(map.len() == 2 && !map.contains(10));
     }
     Ok(map.len() == 1 && map.first().map(|found| found.0) == Some(0..30))

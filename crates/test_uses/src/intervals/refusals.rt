@@ -29,14 +29,14 @@ fn a_refused_put_leaves_the_map(rt: HostRuntime) -> Result<(), Fail> {
     let Ok(first) = Owned::try_new(rt.alloc(), 1) else {
         return Ok(());
     };
-    if let Err((value, _error)) = map.put(10..40, first) {
+    if let Err((value, _error)) = map.try_put(10..40, first) {
         assert!(rt; value.number == 1 && map.is_empty());
         return Ok(());
     }
     let Ok(second) = Owned::try_new(rt.alloc(), 2) else {
         return Ok(());
     };
-    match map.put(20..30, second) {
+    match map.try_put(20..30, second) {
         Ok(()) => assert!(rt;
             map.len() == 3
                 && number_at(&map, 19) == 1
@@ -55,7 +55,7 @@ fn fill(map: &mut Boxes, alloc: Global) -> bool {
             return false;
         };
         let start = number.wrapping_mul(20);
-        if map.put(start..start.wrapping_add(10), value).is_err() {
+        if map.try_put(start..start.wrapping_add(10), value).is_err() {
             return false;
         }
     }
@@ -72,7 +72,7 @@ fn a_put_refused_at_its_second_stretch_leaves_the_map(rt: HostRuntime) -> Result
     let Ok(value) = Owned::try_new(rt.alloc(), 50) else {
         return Ok(());
     };
-    match map.put(42..45, value) {
+    match map.try_put(42..45, value) {
         Ok(()) => assert!(rt;
             map.len() == 16
                 && number_at(&map, 41) == 2
@@ -96,10 +96,10 @@ fn a_refused_cut_leaves_the_map(rt: HostRuntime) -> Result<(), Fail> {
     let Ok(value) = Owned::try_new(rt.alloc(), 1) else {
         return Ok(());
     };
-    if map.put(10..40, value).is_err() {
+    if map.try_put(10..40, value).is_err() {
         return Ok(());
     }
-    if map.cut(20..30).is_err() {
+    if map.try_cut(20..30).is_err() {
         assert!(rt; is_whole(&map, 1));
         return Ok(());
     }
@@ -110,7 +110,9 @@ fn a_refused_cut_leaves_the_map(rt: HostRuntime) -> Result<(), Fail> {
             && number_at(&map, 30) == 1
     );
     // What ends at the end of its stretch goes on nowhere, and asks for no memory.
-    assert!(rt; map.cut(35..40).is_ok() && number_at(&map, 34) == 1 && number_at(&map, 35) == 0);
+    assert!(rt;
+        map.try_cut(35..40).is_ok() && number_at(&map, 34) == 1 && number_at(&map, 35) == 0
+    );
     Ok(())
 }
 
@@ -120,10 +122,10 @@ fn a_refused_cut_in_two_leaves_the_map(rt: HostRuntime) -> Result<(), Fail> {
     let Ok(value) = Owned::try_new(rt.alloc(), 1) else {
         return Ok(());
     };
-    if map.put(10..40, value).is_err() {
+    if map.try_put(10..40, value).is_err() {
         return Ok(());
     }
-    if map.split_at(20).is_err() {
+    if map.try_split_at(20).is_err() {
         assert!(rt; is_whole(&map, 1));
         return Ok(());
     }
@@ -134,7 +136,9 @@ fn a_refused_cut_in_two_leaves_the_map(rt: HostRuntime) -> Result<(), Fail> {
             && number_at(&map, 39) == 1
     );
     // No stretch goes on across a start or an end, so that no memory is asked for.
-    assert!(rt; map.split_at(10).is_ok() && map.split_at(20).is_ok() && map.split_at(40).is_ok());
+    assert!(rt;
+        map.try_split_at(10).is_ok() && map.try_split_at(20).is_ok() && map.try_split_at(40).is_ok()
+    );
     assert!(rt; map.len() == 2);
     Ok(())
 }
@@ -149,6 +153,6 @@ fn a_put_that_needs_no_memory_is_not_refused(rt: HostRuntime) {
     let Ok(value) = Owned::try_new(rt.alloc(), 50) else {
         return;
     };
-    assert!(rt; map.put(20..70, value).is_ok() && map.len() == 12);
+    assert!(rt; map.try_put(20..70, value).is_ok() && map.len() == 12);
     assert!(rt; number_at(&map, 20) == 50 && number_at(&map, 69) == 50 && number_at(&map, 80) == 4);
 }

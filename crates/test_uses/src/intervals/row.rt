@@ -47,11 +47,11 @@ pub fn change(map: &mut Numbers, row: &mut Row, drawn: u64) -> Result<(), TryRes
         (start, end)
     };
     if drawn >> 50 & 3 == 0 {
-        map.cut(start..end)?;
+        map.try_cut(start..end)?;
         write(row, start, end, 0);
     } else {
         let value = (drawn >> 52 & 255).wrapping_add(1);
-        map.put(start..end, value)?;
+        map.try_put(start..end, value)?;
         write(row, start, end, value);
     }
     Ok(())

@@ -52,7 +52,7 @@ fn a_stretch_is_taken_out_whole(rt: HostRuntime) -> Result<(), Fail> {
 fn a_range_overlaps_where_a_point_lies_in_both(rt: HostRuntime) -> Result<(), Fail> {
     let mut map: Numbers = IntervalMap::new(rt.alloc());
     assert!(rt; !map.overlaps(0..u64::MAX));
-    map.put(10..20, 1)?;
+    map.try_put(10..20, 1)?;
     assert!(rt; !map.overlaps(0..10) && map.overlaps(0..11) && map.overlaps(12..13));
     assert!(rt; map.overlaps(19..30) && !map.overlaps(20..30) && map.overlaps(0..u64::MAX));
     // An empty range has no point, also within a stretch.
@@ -73,12 +73,12 @@ fn sum(map: &Numbers) -> u64 {
 #[test]
 fn the_first_stretch_comes_out_first(rt: HostRuntime) -> Result<(), Fail> {
     let mut map: Numbers = IntervalMap::new(rt.alloc());
-    map.put(30..40, 3)?;
-    map.put(10..20, 1)?;
+    map.try_put(30..40, 3)?;
+    map.try_put(10..20, 1)?;
     assert!(rt; sum(&map) == 104);
     assert!(rt; map.pop_first() == Some((10..20, 1)) && map.pop_first() == Some((30..40, 3)));
     assert!(rt; map.pop_first() == None && map.is_empty());
-    map.put(10..20, 1)?;
+    map.try_put(10..20, 1)?;
     map.clear();
     assert!(rt; map.is_empty() && !map.contains(10) && map.remove_at(10) == None);
     Ok(())

@@ -120,7 +120,7 @@ fn splits(map: &mut Numbers, row: &Row) -> Result<bool, TryReserveError> {
     for point in 0..25u64 {
         let more = is_within(map, point) as usize;
         let len = map.len();
-        map.split_at(point)?;
+        map.try_split_at(point)?;
         if map.len() != len.wrapping_add(more) || is_within(map, point) || !has_row(map, row) {
             return Ok(false);
         }
@@ -154,9 +154,9 @@ fn stretches_are_printed(rt: HostRuntime) -> Result<(), Fail> {
     let mut map: Numbers = IntervalMap::new(rt.alloc());
     let text = format!(in rt.alloc(); "{map:?}")?;
     assert!(rt; text.as_str() == "{}");
-    map.put(10..20, 1)?;
-    map.put(20..30, 2)?;
-    map.put(40..50, 3)?;
+    map.try_put(10..20, 1)?;
+    map.try_put(20..30, 2)?;
+    map.try_put(40..50, 3)?;
     let text = format!(in rt.alloc(); "{map:?}")?;
     assert!(rt; text.as_str() == "{10..20: 1, 20..30: 2, 40..50: 3}");
     Ok(())

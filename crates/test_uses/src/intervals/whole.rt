@@ -39,7 +39,7 @@ fn has_copies(map: &mut Numbers) -> Result<bool, TryReserveError> {
         return Ok(false);
     }
     let copy = map.try_clone()?;
-    map.put(5..6, 1000)?;
+    map.try_put(5..6, 1000)?;
     Ok(copy != *map && copy.get(5) != Some(&1000))
 }
 
@@ -58,15 +58,15 @@ fn equal_are_the_same_stretches(rt: HostRuntime) -> Result<(), Fail> {
     let mut map: Numbers = IntervalMap::default(rt.alloc());
     let mut other: Numbers = IntervalMap::new(rt.alloc());
     assert!(rt; map == other);
-    map.put(10..30, 1)?;
+    map.try_put(10..30, 1)?;
     assert!(rt; map != other);
-    other.put(10..29, 1)?;
+    other.try_put(10..29, 1)?;
     assert!(rt; map != other);
-    other.put(10..30, 2)?;
+    other.try_put(10..30, 2)?;
     assert!(rt; map != other);
-    other.put(10..30, 1)?;
+    other.try_put(10..30, 1)?;
     assert!(rt; map == other);
-    other.split_at(20)?;
+    other.try_split_at(20)?;
     assert!(rt; map != other && other.join_at(20) && map == other);
     Ok(())
 }
@@ -79,7 +79,7 @@ fn what_is_copied_or_walked_over_is_given_up(rt: HostRuntime) {
         let Ok(value) = Owned::try_new(rt.alloc(), number) else {
             return;
         };
-        if map.put(number..number.wrapping_add(1), value).is_err() {
+        if map.try_put(number..number.wrapping_add(1), value).is_err() {
             return;
         }
     }
