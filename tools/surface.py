@@ -155,6 +155,11 @@ class Surface:
         with_file = file.stem in names or f"pub mod {file.stem};" in (file.parent.with_suffix(".rt").read_text() if file.parent.name != "src" else "")
         return named in names | STD if owner else with_file
 
+    def is_kept(self, file, owner):
+        """Whether a call is one of a type that its crate keeps to itself, so that a trait's name alone does not hand it on."""
+        sources = self.files([file.relative_to(self.top / "crates").parts[0]]) if " for " in owner else []
+        return any(re.search(rf"(?m)^(?:pub\(crate\) )?(?:struct|enum) {owner.rpartition(' for ')[2]}\b", it.read_text()) for it in sources)
+
     def files(self, crates):
         """The sources of crates, in order."""
         return [it for crate in crates for it in sorted((self.top / f"crates/{crate}/src").rglob("*.rt"))]

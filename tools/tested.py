@@ -78,7 +78,7 @@ class Tests:
         for file in self.here.files([*crates, *ROOTS[1:]]):
             crate, path = file.relative_to(self.top / "crates").parts[0], str(file.relative_to(self.top))
             for it in self.here.calls_in(path) if path.removeprefix("crates/") not in INNER else ():
-                if isinstance(it, Call) and not self.here.is_inner(it) and (self.here.is_public(file, plain(it.owner)) or it.name in names):
+                if isinstance(it, Call) and not self.here.is_inner(it) and (self.here.is_public(file, plain(it.owner)) or it.name in names and not self.here.is_kept(file, plain(it.owner))):
                     found.append((crate, plain(it.owner).rpartition(" for ")[2], it))
         return found
 

@@ -66,7 +66,7 @@ def calls_of(file, names):
         if not call or not may_be_refused(call[3]):
             continue
         of, _, at = owner.partition(" for ")
-        if at and of in names - EACH or of == "From" or not (is_public(file, owner) or call[2] in names):
+        if at and of in names - EACH or of == "From" or not (is_public(file, owner) or call[2] in names and not here.is_kept(file, owner)):
             continue  # a trait's calls are named once, at the trait
         yield f"{at or of}::{call[2]}" if owner else call[2]
 
