@@ -183,11 +183,11 @@ struct Lru;
 
 impl Beside for Lru {
     const ROWS: [&'static str; 5] = [
-        "put into one with room, beside LruCache",
-        "put into a full one, beside LruCache",
-        "get that hits, beside LruCache",
-        "get that misses, beside LruCache",
-        "pop_oldest, beside LruCache",
+        "put into one with room beside LruCache",
+        "put into a full one beside LruCache",
+        "get that hits beside LruCache",
+        "get that misses beside LruCache",
+        "pop_oldest beside LruCache",
     ];
 
     fn run(job: &Job<Lru>) -> u64 {
