@@ -2,9 +2,9 @@
 //! answers.
 #![tactic(auto)]
 
+mod beside_lru;
 mod caches;
 mod intervals;
-mod lru;
 mod steady_timers;
 mod tables;
 mod timers;

@@ -7,5 +7,5 @@ use Rattle.callers_of_uses.proofs.cache.get_then_peek.Goals as goal
 pub returns : goal.returns
 returns c =
     let found = found_used (nat_eq c.args.key) (nat_eq_equiv.congr c.args.key) c.args.cache.now c.get.ensures.cached in
-    c.copied.ensures ∙ c.peek.ensures ∙ ap (λ m. option_map (λ h. h.value) (lookup (nat_eq c.args.key) m.entries)) c.get.follows.holds-at-none
+    c.copied.ensures ∙ c.peek.ensures.value ∙ ap (λ m. option_map (λ h. h.value) (lookup (nat_eq c.args.key) m.entries)) c.get.follows.holds-at-none
     ∙ ap (option_map (λ h. h.value)) found ∙ sym c.get.ensures.value ∙ sym c.copied-first.ensures
