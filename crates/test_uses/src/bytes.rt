@@ -35,8 +35,8 @@ fn scattered(place: u64) -> u64 {
 fn stretches(budget: &Budget<Global>) -> usize {
     let mut map: Stretches<'_> = IntervalMap::new(budget);
     for place in 0..MANY {
-        let start = scattered(place) * 4;
-        if map.try_put(start..start + 2, place).is_err() {
+        let start = scattered(place).wrapping_mul(4);
+        if map.try_put(start..start.wrapping_add(2), place).is_err() {
             return map.len();
         }
     }
