@@ -24,8 +24,8 @@ use std::alloc::Global;
 use std::marker::Model;
 
 /// Timers with their times and values, which come out in the order of their times, and those of equal times in the order in which they were
-/// put there. A call takes a number of steps that grows with the logarithm of the number of timers. Only `try_insert`, `try_with_capacity` and
-/// `try_reserve` take memory.
+/// put there. A call takes a number of steps that grows with the logarithm of the number of timers. Only calls that
+/// answer a `Result` take memory.
 #[derive(Drop)]
 pub struct TimerQueue<T: Ord, V, A: Handle = Global> {
     slots: Slots<T, V, A>,
